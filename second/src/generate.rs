@@ -1,0 +1,260 @@
+//! Random inputs that Check accepts: reduced ordered shared diagrams of all
+//! sizes, from the empty table to the full one.
+
+use crate::diagram::{Diagram, Edge};
+use crate::input::Input;
+use crate::layout::{Record, RecordNumber, Reference, MOST_RECORDS, MOST_ROOTS, MOST_VARIABLES};
+use crate::random::Random;
+
+/// What is wanted of a diagram. Fewer records are used where the variables
+/// and roots do not allow as many.
+struct Shape {
+    n: usize,
+    used: usize,
+    free: usize,
+    most_tops: usize,
+    /// A step adds a whole random function once in so many times, and
+    /// otherwise a single node.
+    function_once_in: usize,
+}
+
+/// So many useless steps end the growing of a diagram.
+const MOST_MISSES: usize = 100;
+
+/// A random input that Check accepts, mostly a small one, and the number of
+/// its used records.
+pub fn accepted(random: &mut Random) -> (Input, usize) {
+    let shape = random_shape(random);
+    let diagram = random_diagram(&shape, random);
+    let used = diagram.nodes().len();
+    let records = (used + shape.free).min(MOST_RECORDS);
+    let (mut input, references) = placed(&diagram, records, random_order(shape.n, random), random);
+    input.set_roots(&random_roots(&diagram, &references, random));
+    (input, used)
+}
+
+pub fn random_order(n: usize, random: &mut Random) -> Vec<u8> {
+    let mut order: Vec<u8> = (0..n as u8).collect();
+    random.shuffle(&mut order);
+    order
+}
+
+fn random_shape(random: &mut Random) -> Shape {
+    match random.below(100) {
+        0..=69 => small(random),
+        70..=89 => medium(random),
+        90..=95 => hundreds(random),
+        96..=97 => large(random),
+        _ => brimful(random),
+    }
+}
+
+fn small(random: &mut Random) -> Shape {
+    let most_n = if random.coin() { 5 } else { MOST_VARIABLES };
+    Shape {
+        n: random.between(1, most_n),
+        used: random.below(13),
+        free: random_free(6, random),
+        most_tops: random.between(1, 8),
+        function_once_in: random.between(1, 6),
+    }
+}
+
+fn medium(random: &mut Random) -> Shape {
+    Shape {
+        n: random.between(1, MOST_VARIABLES),
+        used: random.below(80),
+        free: random_free(80, random),
+        most_tops: random.between(1, MOST_ROOTS),
+        function_once_in: random.between(1, 20),
+    }
+}
+
+fn hundreds(random: &mut Random) -> Shape {
+    Shape {
+        n: random.between(4, MOST_VARIABLES),
+        used: random.between(80, 800),
+        free: random_free(800, random),
+        most_tops: random.between(1, MOST_ROOTS),
+        function_once_in: random.between(1, 40),
+    }
+}
+
+/// Up to 4,096 records, some or none of them used.
+fn large(random: &mut Random) -> Shape {
+    let records = random.between(1_000, MOST_RECORDS);
+    let used = random.below(records + 1);
+    Shape {
+        n: random.between(1, MOST_VARIABLES),
+        used,
+        free: records - used,
+        most_tops: random.between(1, MOST_ROOTS),
+        function_once_in: random.between(1, 3),
+    }
+}
+
+/// 4,096 records, all of them used, or all but a few.
+fn brimful(random: &mut Random) -> Shape {
+    let free = random_free(3, random);
+    Shape {
+        n: random.between(16, MOST_VARIABLES),
+        used: MOST_RECORDS - free,
+        free,
+        most_tops: MOST_ROOTS,
+        function_once_in: 1,
+    }
+}
+
+fn random_free(most: usize, random: &mut Random) -> usize {
+    if random.once_in(3) {
+        0
+    } else {
+        random.between(0, most)
+    }
+}
+
+fn random_diagram(shape: &Shape, random: &mut Random) -> Diagram {
+    let mut diagram = Diagram::new(shape.n);
+    let mut misses = 0;
+    while diagram.nodes().len() < shape.used && misses < MOST_MISSES {
+        let before = diagram.nodes().len();
+        if diagram.tops().len() < shape.most_tops && random.once_in(shape.function_once_in) {
+            let (levels, truth) = random_function(shape.n, shape.used - before, random);
+            diagram.function(&levels, &truth);
+        } else {
+            diagram.grow(shape.most_tops, random);
+        }
+        let grown = diagram.nodes().len() > before;
+        misses = if grown { 0 } else { misses + 1 };
+    }
+    diagram
+}
+
+/// Rising levels and a truth table over them, so few that the function takes
+/// `room` nodes at most.
+fn random_function(n: usize, room: usize, random: &mut Random) -> (Vec<usize>, Vec<bool>) {
+    let most = n.min((room + 1).ilog2() as usize);
+    let count = random.between(0, most).max(random.between(0, most));
+    let mut levels: Vec<usize> = (0..n).collect();
+    random.shuffle(&mut levels);
+    levels.truncate(count);
+    levels.sort();
+    let truth = (0..1 << count).map(|_| random.coin()).collect();
+    (levels, truth)
+}
+
+/// The diagram's nodes as records with random numbers, the others free, no
+/// roots yet; and the reference to each node.
+fn placed(
+    diagram: &Diagram,
+    records: usize,
+    order: Vec<u8>,
+    random: &mut Random,
+) -> (Input, Vec<Reference>) {
+    let mut numbers: Vec<RecordNumber> = (0..records).map(RecordNumber).collect();
+    random.shuffle(&mut numbers);
+    numbers.truncate(diagram.nodes().len());
+    let references: Vec<Reference> = numbers.iter().copied().map(Reference::to).collect();
+
+    let mut input = Input::free(records, order);
+    for (node, &number) in diagram.nodes().iter().zip(&numbers) {
+        let record = Record {
+            variable: input.variable_at(node.level),
+            low: reference(node.low, &references),
+            high: reference(node.high, &references),
+        };
+        input.set_record(number, record);
+    }
+    (input, references)
+}
+
+fn reference(edge: Edge, references: &[Reference]) -> Reference {
+    match edge {
+        Edge::Constant(value) => Reference::constant(value),
+        Edge::Node(number) => references[number],
+    }
+}
+
+/// All tops, so that no record is idle, and as many further roots as there is
+/// room for: constants, records inside, and the same ones once more.
+fn random_roots(
+    diagram: &Diagram,
+    references: &[Reference],
+    random: &mut Random,
+) -> Vec<Reference> {
+    let mut roots: Vec<Reference> = diagram.tops().iter().map(|&top| references[top]).collect();
+    let room = MOST_ROOTS - roots.len();
+    let further = match random.below(8) {
+        0 => random.between(0, room),
+        1 => room,
+        2..=4 => 0,
+        _ => random.between(0, room.min(3)),
+    };
+    for _ in 0..further {
+        let from = match random.below(3) {
+            0 => None,
+            1 => random.pick(&roots),
+            _ => random.pick(references),
+        };
+        roots.push(from.unwrap_or(Reference::constant(random.coin())));
+    }
+    random.shuffle(&mut roots);
+    roots
+}
+
+#[cfg(test)]
+mod tests {
+    use super::*;
+    use crate::model::{check, Answer};
+    use crate::value::value;
+
+    #[test]
+    fn the_model_accepts_what_is_generated() {
+        for seed in 0..2_000 {
+            let (input, used) = accepted(&mut Random::from_seed(seed));
+            let answer = check(&input.table, &input.roots, &input.order);
+            assert_eq!(answer, Answer::Accepted(used), "seed {seed}");
+        }
+    }
+
+    /// Three random functions share one table; each is read back for every
+    /// choice of its variables, with the other inputs at random.
+    #[test]
+    fn the_roots_have_the_values_of_their_functions() {
+        for seed in 0..500 {
+            let random = &mut Random::from_seed(seed);
+            let n = random.between(1, MOST_VARIABLES);
+            let mut diagram = Diagram::new(n);
+            let functions: Vec<_> = (0..3).map(|_| random_function(n, 63, random)).collect();
+            let edges: Vec<Edge> = functions
+                .iter()
+                .map(|(levels, truth)| diagram.function(levels, truth))
+                .collect();
+            let records = diagram.nodes().len() + random.below(5);
+            let order = random_order(n, random);
+            let (input, references) = placed(&diagram, records, order, random);
+
+            for ((levels, truth), &edge) in functions.iter().zip(&edges) {
+                let root = reference(edge, &references);
+                for (choice, &wanted) in truth.iter().enumerate() {
+                    let inputs = inputs_of_choice(choice, levels, &input.order, random);
+                    assert_eq!(value(input.store(), root, &inputs), u8::from(wanted));
+                }
+            }
+        }
+    }
+
+    /// The first level takes the highest digit of the choice.
+    fn inputs_of_choice(
+        choice: usize,
+        levels: &[usize],
+        order: &[u8],
+        random: &mut Random,
+    ) -> Vec<u8> {
+        let mut inputs: Vec<u8> = order.iter().map(|_| random.below(2) as u8).collect();
+        for (digit, &level) in levels.iter().rev().enumerate() {
+            inputs[usize::from(order[level])] = (choice >> digit & 1) as u8;
+        }
+        inputs
+    }
+}

@@ -1,0 +1,71 @@
+//! The three buffers of one comparison, owned, and what fills or alters them.
+
+use crate::layout::{Record, RecordNumber, Reference, Store, Variable, FREE_RECORD, RECORD_BYTES};
+
+#[derive(Clone, Debug, PartialEq, Eq)]
+pub struct Input {
+    pub table: Vec<u8>,
+    pub roots: Vec<u8>,
+    pub order: Vec<u8>,
+}
+
+impl Input {
+    /// Free records only, no roots.
+    pub fn free(records: usize, order: Vec<u8>) -> Input {
+        Input {
+            table: FREE_RECORD.repeat(records),
+            roots: Vec::new(),
+            order,
+        }
+    }
+
+    pub fn store(&self) -> Store<'_> {
+        Store {
+            table: &self.table,
+            roots: &self.roots,
+            order: &self.order,
+        }
+    }
+
+    pub fn used_numbers(&self) -> Vec<RecordNumber> {
+        self.store().used().map(|(number, _)| number).collect()
+    }
+
+    pub fn free_numbers(&self) -> Vec<RecordNumber> {
+        let store = self.store();
+        store
+            .record_numbers()
+            .filter(|&number| store.is_free(number))
+            .collect()
+    }
+
+    /// The level of a used record; none where a damaged order lacks its variable.
+    pub fn level_of(&self, number: RecordNumber) -> Option<usize> {
+        self.store().level(self.store().record(number).variable)
+    }
+
+    pub fn bytes_mut(&mut self, number: RecordNumber) -> &mut [u8] {
+        &mut self.table[number.0 * RECORD_BYTES..][..RECORD_BYTES]
+    }
+
+    pub fn set_record(&mut self, number: RecordNumber, record: Record) {
+        self.bytes_mut(number).copy_from_slice(&record.to_bytes());
+    }
+
+    pub fn set_free(&mut self, number: RecordNumber) {
+        self.bytes_mut(number).copy_from_slice(&FREE_RECORD);
+    }
+
+    pub fn root_list(&self) -> Vec<Reference> {
+        self.store().roots().collect()
+    }
+
+    pub fn set_roots(&mut self, roots: &[Reference]) {
+        self.roots = roots.iter().flat_map(|root| root.0.to_le_bytes()).collect();
+    }
+
+    /// The variable at a level; the level is within the order.
+    pub fn variable_at(&self, level: usize) -> Variable {
+        Variable(self.order[level])
+    }
+}

@@ -1,0 +1,17 @@
+//! The value of a reference under inputs.
+
+use crate::layout::{Reference, Store};
+
+/// "A constant is itself; a record takes its low reference where its
+/// variable's input is 0 and its high one where it is 1." Byte v of the
+/// inputs is for variable v. The table is an accepted one.
+pub fn value(store: Store, reference: Reference, inputs: &[u8]) -> u8 {
+    let Some(number) = reference.record() else {
+        return reference.0 as u8;
+    };
+    let record = store.record(number);
+    match inputs[usize::from(record.variable.0)] {
+        0 => value(store, record.low, inputs),
+        _ => value(store, record.high, inputs),
+    }
+}
