@@ -1,5 +1,6 @@
-/* The library as C sees it: its header, its static archive and the answers of
- * Check for case A of the bench sheet, whole and damaged. */
+/* The library as C sees it: its header, its static archive, and the answers of
+ * each call for cases of the bench sheet, whole and damaged. The answers and
+ * the buffers afterwards are written out by hand. */
 
 #include <inttypes.h>
 #include <stddef.h>
@@ -9,7 +10,7 @@
 
 #include "relay.h"
 
-#define LIST 4
+#define LIST 8
 #define UNTOUCHED UINT32_C(0xA5A55A5A)
 
 /* 0: 1 (0,1); 1: 0 (0,2); 2: free; root 3; order 0 1 */
@@ -18,47 +19,254 @@ static const uint8_t case_a[24] = {
     0,   0, 0, 0, 2, 0, 0, 0, /* */
     255, 0, 0, 0, 0, 0, 0, 0, /* */
 };
-static const uint8_t roots[2] = {3, 0};
-static const uint8_t order[2] = {0, 1};
+/* 0: free; 1: 1 (0,4); 2: 0 (0,1) */
+static const uint8_t case_a_after[24] = {
+    255, 0, 0, 0, 0, 0, 0, 0, /* */
+    1,   0, 0, 0, 4, 0, 0, 0, /* */
+    0,   0, 0, 0, 1, 0, 0, 0, /* */
+};
+/* 0: 1 (0,1), which a root names; 1: 1 (0,4); 2: 0 (0,1) */
+static const uint8_t case_c_after[24] = {
+    1, 0, 0, 0, 1, 0, 0, 0, /* */
+    1, 0, 0, 0, 4, 0, 0, 0, /* */
+    0, 0, 0, 0, 1, 0, 0, 0, /* */
+};
+/* The free record has a rest that is not zero. */
+static const uint8_t damaged[24] = {
+    1,   0, 0, 0, 1, 0, 0, 0, /* */
+    0,   0, 0, 0, 2, 0, 0, 0, /* */
+    255, 0, 0, 0, 0, 1, 0, 0, /* */
+};
 
-/* Asks with a list of so many entries lent, expects so many to be written
- * with these numbers and nothing else to be touched. 0 where that is so. */
-static int differs(const char *name, const uint8_t *given, size_t entries,
-                   size_t expected_written, uint32_t first, uint32_t second)
+/* Case B is case A without its last record. */
+#define WHOLE 24
+#define WITHOUT_LAST 16
+
+/* Case C has both of these roots, the others only the first. */
+static const uint8_t roots[4] = {3, 0, 2, 0};
+#define ONE_ROOT 2
+#define TWO_ROOTS 4
+
+static const uint8_t order_0_1[2] = {0, 1};
+static const uint8_t order_1_0[2] = {1, 0};
+static const uint8_t order_1_1[2] = {1, 1};
+
+/* The buffers of one call. */
+struct lent {
+    uint8_t table[WHOLE];
+    size_t table_length;
+    uint8_t roots[TWO_ROOTS];
+    size_t roots_length;
+    uint8_t order[2];
+    uint32_t list[LIST];
+};
+
+static struct lent lend(const uint8_t *table, size_t table_length,
+                        size_t roots_length)
 {
-    uint8_t table[sizeof case_a];
-    uint32_t list[LIST] = {UNTOUCHED, UNTOUCHED, UNTOUCHED, UNTOUCHED};
-    const uint32_t expected[LIST] = {first, second, UNTOUCHED, UNTOUCHED};
-    size_t written;
+    struct lent lent;
+    size_t entry;
 
-    memcpy(table, given, sizeof table);
-    written = relay_check(table, sizeof table, roots, sizeof roots, order,
-                          sizeof order, list, entries);
-    if (written == expected_written &&
-        memcmp(list, expected, sizeof list) == 0 &&
-        memcmp(table, given, sizeof table) == 0) {
+    memcpy(lent.table, table, WHOLE);
+    lent.table_length = table_length;
+    memcpy(lent.roots, roots, TWO_ROOTS);
+    lent.roots_length = roots_length;
+    memcpy(lent.order, order_0_1, sizeof order_0_1);
+    for (entry = 0; entry < LIST; entry++) {
+        lent.list[entry] = UNTOUCHED;
+    }
+    return lent;
+}
+
+/* What a call must do: write so many numbers, these, and leave the table and
+ * the order so. */
+struct expected {
+    size_t written;
+    uint32_t numbers[LIST];
+    const uint8_t *table;
+    const uint8_t *order;
+};
+
+/* The list must hold the numbers, its other entries and the roots what they
+ * held before. 0 where all is as expected. */
+static int differs(const char *name, const struct lent *lent, size_t written,
+                   struct expected expected)
+{
+    size_t entry;
+    int same = written == expected.written &&
+               memcmp(lent->table, expected.table, WHOLE) == 0 &&
+               memcmp(lent->roots, roots, TWO_ROOTS) == 0 &&
+               memcmp(lent->order, expected.order, 2) == 0;
+
+    for (entry = 0; entry < LIST; entry++) {
+        same = same && lent->list[entry] == (entry < expected.written
+                                                 ? expected.numbers[entry]
+                                                 : UNTOUCHED);
+    }
+    if (same) {
         return 0;
     }
-    printf("boundary: %s: %zu written, %" PRIu32 " %" PRIu32
-           "; expected %zu, %" PRIu32 " %" PRIu32 "; table %s\n",
-           name, written, list[0], list[1], expected_written, first, second,
-           memcmp(table, given, sizeof table) == 0 ? "unchanged" : "changed");
+    printf("boundary: %s: %zu written, expected %zu\n", name, written,
+           expected.written);
+    for (entry = 0; entry < LIST; entry++) {
+        printf("  %" PRIu32 ", expected %" PRIu32 "\n", lent->list[entry],
+               entry < expected.written ? expected.numbers[entry] : UNTOUCHED);
+    }
+    printf("  table %s, roots %s, order %s\n",
+           memcmp(lent->table, expected.table, WHOLE) ? "wrong" : "right",
+           memcmp(lent->roots, roots, TWO_ROOTS) ? "wrong" : "right",
+           memcmp(lent->order, expected.order, 2) ? "wrong" : "right");
     return 1;
+}
+
+static int check(const char *name, const uint8_t *table, size_t entries,
+                 struct expected expected)
+{
+    struct lent lent = lend(table, WHOLE, ONE_ROOT);
+    size_t written = relay_check(lent.table, lent.table_length, lent.roots,
+                                 lent.roots_length, lent.order,
+                                 sizeof lent.order, lent.list, entries);
+    return differs(name, &lent, written, expected);
+}
+
+static int checks(void)
+{
+    struct expected accepted = {2, {0, 2}, case_a, order_0_1};
+    struct expected refused = {2, {4, 2}, damaged, order_0_1};
+    struct expected nothing = {0, {0}, case_a, order_0_1};
+
+    return check("check A", case_a, LIST, accepted) ||
+           check("check A, list of 2", case_a, 2, accepted) ||
+           check("check A damaged", damaged, LIST, refused) ||
+           check("check A, list of 1", case_a, 1, nothing) ||
+           check("check A, list of 0", case_a, 0, nothing);
+}
+
+/* Case A is variable 0 and variable 1. */
+static int read_a(const char *name, uint32_t position, uint8_t input_0,
+                  uint8_t input_1, size_t entries, struct expected expected)
+{
+    struct lent lent = lend(case_a, WHOLE, ONE_ROOT);
+    const uint8_t inputs[2] = {input_0, input_1};
+    size_t written =
+        relay_read(lent.table, lent.table_length, lent.roots,
+                   lent.roots_length, lent.order, sizeof lent.order, position,
+                   inputs, sizeof inputs, lent.list, entries);
+    return differs(name, &lent, written, expected);
+}
+
+static int reads(void)
+{
+    struct expected value_0 = {2, {0, 0}, case_a, order_0_1};
+    struct expected value_1 = {2, {0, 1}, case_a, order_0_1};
+    struct expected no_root = {2, {10, 1}, case_a, order_0_1};
+    struct expected no_input = {2, {11, 0}, case_a, order_0_1};
+    struct expected nothing = {0, {0}, case_a, order_0_1};
+
+    return read_a("read A under 0 0", 0, 0, 0, LIST, value_0) ||
+           read_a("read A under 0 1", 0, 0, 1, LIST, value_0) ||
+           read_a("read A under 1 0", 0, 1, 0, LIST, value_0) ||
+           read_a("read A under 1 1", 0, 1, 1, LIST, value_1) ||
+           read_a("read A, no such root", 1, 1, 1, LIST, no_root) ||
+           read_a("read A under 1 2", 0, 1, 2, LIST, no_input) ||
+           read_a("read A, list of 1", 0, 1, 1, 1, nothing);
+}
+
+static int show(const char *name, const uint8_t *table, uint32_t position,
+                size_t entries, struct expected expected)
+{
+    struct lent lent = lend(table, WHOLE, TWO_ROOTS);
+    size_t written =
+        relay_show(lent.table, lent.table_length, lent.roots,
+                   lent.roots_length, lent.order, sizeof lent.order, position,
+                   lent.list, entries);
+    return differs(name, &lent, written, expected);
+}
+
+static int shows(void)
+{
+    struct expected record_1 = {2, {8, 8}, case_a, order_0_1};
+    struct expected record_0 = {2, {0, 8}, case_a, order_0_1};
+    struct expected no_root = {2, {0, 0}, case_a, order_0_1};
+    struct expected refused = {2, {0, 0}, damaged, order_0_1};
+    struct expected nothing = {0, {0}, case_a, order_0_1};
+
+    return show("show C, first root", case_a, 0, LIST, record_1) ||
+           show("show C, second root", case_a, 1, LIST, record_0) ||
+           show("show C, no such root", case_a, 2, LIST, no_root) ||
+           show("show C damaged", damaged, 0, LIST, refused) ||
+           show("show C, list of 1", case_a, 0, 1, nothing);
+}
+
+static int swap(const char *name, struct lent lent, uint32_t level,
+                size_t entries, struct expected expected)
+{
+    size_t written =
+        relay_swap(lent.table, lent.table_length, lent.roots,
+                   lent.roots_length, lent.order, sizeof lent.order, level,
+                   lent.list, entries);
+    return differs(name, &lent, written, expected);
+}
+
+static int swaps(void)
+{
+    struct lent a = lend(case_a, WHOLE, ONE_ROOT);
+    struct lent b = lend(case_a, WITHOUT_LAST, ONE_ROOT);
+    struct lent c = lend(case_a, WHOLE, TWO_ROOTS);
+    struct expected made = {1, {0}, case_a_after, order_1_0};
+    struct expected made_c = {1, {0}, case_c_after, order_1_0};
+    struct expected no_room = {4, {100, 0, 1, 0}, case_a, order_0_1};
+    struct expected no_level = {2, {12, 1}, case_a, order_0_1};
+    struct expected nothing = {0, {0}, case_a, order_0_1};
+
+    return swap("swap A", a, 0, LIST, made) ||
+           swap("swap A, list of 4", a, 0, 4, made) ||
+           swap("swap B", b, 0, LIST, no_room) ||
+           swap("swap C", c, 0, LIST, made_c) ||
+           swap("swap A, level 1", a, 1, LIST, no_level) ||
+           swap("swap A, list of 3", a, 0, 3, nothing) ||
+           swap("swap A, list of 0", a, 0, 0, nothing);
+}
+
+static int run(const char *name, struct lent lent, const uint8_t *target,
+               uint32_t budget, size_t entries, struct expected expected)
+{
+    size_t written =
+        relay_run(lent.table, lent.table_length, lent.roots,
+                  lent.roots_length, lent.order, sizeof lent.order, target, 2,
+                  budget, lent.list, entries);
+    return differs(name, &lent, written, expected);
+}
+
+static int runs(void)
+{
+    struct lent a = lend(case_a, WHOLE, ONE_ROOT);
+    struct lent b = lend(case_a, WITHOUT_LAST, ONE_ROOT);
+    struct lent c = lend(case_a, WHOLE, TWO_ROOTS);
+    struct expected done = {3, {0, 1, 0}, case_a_after, order_1_0};
+    struct expected done_c = {3, {0, 1, 0}, case_c_after, order_1_0};
+    struct expected there = {3, {0, 0, 0}, case_a, order_0_1};
+    struct expected paused = {3, {101, 0, 1}, case_a, order_0_1};
+    struct expected no_room = {
+        6, {100, 0, 1, 0, 1, 0}, case_a, order_0_1};
+    struct expected refused = {2, {3, 1}, case_a, order_0_1};
+    struct expected nothing = {0, {0}, case_a, order_0_1};
+
+    return run("run A", a, order_1_0, 1, LIST, done) ||
+           run("run A, list of 6", a, order_1_0, UINT32_MAX, 6, done) ||
+           run("run A, budget 0", a, order_1_0, 0, LIST, paused) ||
+           run("run A, target 0 1", a, order_0_1, 0, LIST, there) ||
+           run("run A, target 1 1", a, order_1_1, 1, LIST, refused) ||
+           run("run B", b, order_1_0, 1, LIST, no_room) ||
+           run("run B, budget 0", b, order_1_0, 0, LIST, no_room) ||
+           run("run C", c, order_1_0, 1, LIST, done_c) ||
+           run("run A, list of 5", a, order_1_0, 1, 5, nothing) ||
+           run("run A, list of 0", a, order_1_0, 1, 0, nothing);
 }
 
 int main(void)
 {
-    uint8_t damaged[sizeof case_a];
-
-    /* The free record gets a rest that is not zero. */
-    memcpy(damaged, case_a, sizeof damaged);
-    damaged[2 * 8 + 5] = 1;
-
-    if (differs("case A", case_a, LIST, 2, 0, 2) ||
-        differs("case A, list of 2", case_a, 2, 2, 0, 2) ||
-        differs("case A damaged", damaged, LIST, 2, 4, 2) ||
-        differs("list of 1", case_a, 1, 0, UNTOUCHED, UNTOUCHED) ||
-        differs("list of 0", case_a, 0, 0, UNTOUCHED, UNTOUCHED)) {
+    if (checks() || reads() || shows() || swaps() || runs()) {
         return 1;
     }
     puts("boundary: C gets the answers of the rules");

@@ -1,125 +1,88 @@
-//! The library held to an expected answer, and the random tables.
+//! The comparisons, each with random questions from fixed seeds.
 
+pub mod check;
+pub mod program;
+pub mod read;
+pub mod run;
+pub mod show;
+pub mod swap;
+
+use crate::hold::{hold_library_to, room, Expected, LIST};
 use crate::input::Input;
-use crate::layout::{RECORD_BYTES, ROOT_BYTES};
-use crate::library;
-use crate::model::{self, Answer};
-use crate::sample::{sample, Sample};
+use crate::model::{answer, Answer, Question};
+use crate::random::Random;
 use crate::tally::Tally;
 
-/// The list that is lent for an answer lies at the start of a longer one.
-const LIST: usize = 8;
-/// What each entry holds before the call: no number of any answer.
-const UNTOUCHED: u32 = 0xA5A5_5A5A;
-/// The random tables have these seeds, rising by one.
-const FIRST_SEED: u64 = 20_260_000;
+/// Every answer that an operation can give must be met this often.
+const FEWEST_OF_EACH_ANSWER: usize = 100;
 
-/// The answer's numbers, as the library writes them.
-fn numbers(answer: Answer) -> [u32; 2] {
-    match answer {
-        Answer::Accepted(used) => [0, used as u32],
-        Answer::Refused { number, place } => [number, place as u32],
-    }
-}
-
-/// Asks the library for Check with a list of so many entries lent. It must
-/// write the answer's two numbers, or nothing where the list is too short,
-/// and change nothing else; otherwise this is the report of what it did.
-pub fn hold_library_to(answer: Answer, input: &Input, entries: usize) -> Result<(), String> {
-    let mut lent = input.clone();
-    let mut list = [UNTOUCHED; LIST];
-    let written = library::check(&mut lent, &mut list[..entries]);
-
-    let mut expected = [UNTOUCHED; LIST];
-    let mut expected_written = 0;
-    if entries >= 2 {
-        expected[..2].copy_from_slice(&numbers(answer));
-        expected_written = 2;
-    }
-    if written != expected_written || list != expected {
-        return Err(format!(
-            "a list of {entries} entries was lent (-: left as it was)\n\
-             library:  {written} written, list {}\n\
-             expected: {expected_written} written, list {}, which is {answer:?}\n{}",
-            entries_text(&list),
-            entries_text(&expected),
-            hex(input)
-        ));
-    }
-    if lent != *input {
-        return Err(format!(
-            "the library changed an input buffer\nbefore:\n{}\nafter:\n{}",
-            hex(input),
-            hex(&lent)
-        ));
-    }
-    Ok(())
-}
-
-fn entries_text(list: &[u32]) -> String {
-    let texts: Vec<String> = list
-        .iter()
-        .map(|&entry| match entry {
-            UNTOUCHED => "-".to_string(),
-            number => number.to_string(),
-        })
-        .collect();
-    texts.join(" ")
-}
-
-/// Compares so many random tables; the first difference ends it.
-pub fn random_tables(tables: u64) -> Result<Tally, String> {
-    let mut tally = Tally::new();
-    for seed in FIRST_SEED..FIRST_SEED + tables {
-        let sample = sample(seed);
-        let answer = compared(&sample)
-            .map_err(|report| format!("seed {seed}, kind {:?}\n{report}", sample.kinds))?;
-        tally.count(&sample.kinds, answer);
+/// So many random questions, from seeds rising by one; the first difference
+/// ends it.
+fn random_questions(
+    mut tally: Tally,
+    first_seed: u64,
+    count: u64,
+    compare: impl Fn(&mut Random, &mut Tally) -> Result<(), String>,
+) -> Result<Tally, String> {
+    for seed in first_seed..first_seed + count {
+        compare(&mut Random::from_seed(seed), &mut tally)
+            .map_err(|report| format!("seed {seed}\n{report}"))?;
     }
     Ok(tally)
 }
 
-/// The answer in which the model, the library and, where it knows, the maker
-/// of the input are at one.
-fn compared(sample: &Sample) -> Result<Answer, String> {
-    let Input {
-        table,
-        roots,
-        order,
-    } = &sample.input;
-    let answer = model::check(table, roots, order);
-    if let Some(known) = sample.known {
-        if known != answer {
-            return Err(format!(
-                "model:    {answer:?}\nmade for: {known:?}\n{}",
-                hex(&sample.input)
-            ));
-        }
+/// The model's answer, with the library held to it; the input becomes what it
+/// is afterwards. Now and then the library is asked with a list too short
+/// first, and must leave it at that.
+fn compared(input: &mut Input, question: &Question, random: &mut Random) -> Result<Answer, String> {
+    let before = input.clone();
+    let answer = answer(input, question);
+    let expected = Expected {
+        answer,
+        after: input.clone(),
+    };
+    let room = room(question);
+    if random.once_in(4) {
+        hold_library_to(&expected, &before, question, random.below(room))?;
     }
-    hold_library_to(answer, &sample.input, LIST)?;
+    let entries = random.between(room, LIST);
+    hold_library_to(&expected, &before, question, entries)?;
     Ok(answer)
 }
 
-/// The buffers, a group of digits for each record, root and variable.
-fn hex(input: &Input) -> String {
-    format!(
-        "table ({} bytes):{}\nroots ({} bytes):{}\norder ({} bytes):{}",
-        input.table.len(),
-        groups(&input.table, RECORD_BYTES),
-        input.roots.len(),
-        groups(&input.roots, ROOT_BYTES),
-        input.order.len(),
-        groups(&input.order, 1)
-    )
+/// The name of an answer in a tally.
+fn name(answer: Answer) -> String {
+    match answer {
+        Answer::Refused(refusal) => format!("refused {}", refusal.number),
+        Answer::Accepted { .. } => "accepted".to_string(),
+        Answer::Value(value) => format!("value {value}"),
+        Answer::Part { length: 0, .. } => "empty".to_string(),
+        Answer::Part { .. } => "not empty".to_string(),
+        Answer::Made => "made".to_string(),
+        Answer::NoRoom(_) | Answer::Stuck { .. } => "no room".to_string(),
+        Answer::Done { .. } => "done".to_string(),
+        Answer::Paused { .. } => "paused".to_string(),
+    }
 }
 
-fn groups(bytes: &[u8], size: usize) -> String {
-    let mut text = String::new();
-    for group in bytes.chunks(size) {
-        text.push(' ');
-        for byte in group {
-            text.push_str(&format!("{byte:02x}"));
-        }
+/// A position of these roots, or one past them, near and far.
+fn random_position(input: &Input, random: &mut Random) -> u32 {
+    let roots = input.root_list().len();
+    if roots > 0 && !random.once_in(8) {
+        return random.below(roots) as u32;
     }
-    text
+    past(roots, random)
+}
+
+/// This number, or one above it: near, far, or seeming small to a reader of
+/// its last bits alone.
+fn past(first: usize, random: &mut Random) -> u32 {
+    let first = first as u32;
+    match random.below(6) {
+        0 | 1 => first,
+        2 => first + random.below(10) as u32,
+        3 => 1 << random.between(10, 31),
+        4 => (random.below(3) as u32) + (1 << random.between(10, 31)),
+        _ => u32::MAX,
+    }
 }

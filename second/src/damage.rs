@@ -584,7 +584,7 @@ fn set_high(input: &mut Input, number: RecordNumber, high: Reference) -> Option<
 #[cfg(test)]
 mod tests {
     use super::AIMED;
-    use crate::model::check;
+    use crate::model::{answer, Question};
     use crate::random::Random;
     use crate::sample::one_aimed_damage;
 
@@ -592,9 +592,8 @@ mod tests {
     fn a_single_aimed_damage_gives_its_refusal_at_its_place() {
         for aimed in &AIMED {
             for seed in 0..100 {
-                let sample = one_aimed_damage(aimed, &mut Random::from_seed(seed));
-                let input = &sample.input;
-                let answer = check(&input.table, &input.roots, &input.order);
+                let mut sample = one_aimed_damage(aimed, &mut Random::from_seed(seed));
+                let answer = answer(&mut sample.input, &Question::Check);
                 assert_eq!(Some(answer), sample.known, "{}, seed {seed}", aimed.name);
             }
         }

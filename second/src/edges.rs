@@ -1,36 +1,12 @@
-//! Tables made by hand, with the answers that the rules give them. Neither
-//! the tables nor the answers are taken from the model.
+//! Tables made by hand, with the answers that the rules give to Check.
+//! Neither the tables nor the answers are taken from the model.
 
-use crate::compare::hold_library_to;
+use crate::by_hand::{input, used, with, Bytes, Case, A_0, A_1, FREE};
 use crate::input::Input;
-use crate::model::Answer;
+use crate::model::{Answer, Question};
+use crate::refusals::Refusal;
 
-/// Each table is asked about with answer lists of these lengths.
-const LISTS: [usize; 5] = [0, 1, 2, 3, 8];
-
-type Bytes = [u8; 8];
-
-const FREE: Bytes = [255, 0, 0, 0, 0, 0, 0, 0];
-
-struct Case {
-    name: &'static str,
-    input: Input,
-    answer: Answer,
-}
-
-/// Holds the library to every case; how many there are, or the first report.
-pub fn hold_library_to_edges() -> Result<usize, String> {
-    let cases = cases();
-    for case in &cases {
-        for entries in LISTS {
-            hold_library_to(case.answer, &case.input, entries)
-                .map_err(|report| format!("made by hand: {}\n{report}", case.name))?;
-        }
-    }
-    Ok(cases.len())
-}
-
-fn cases() -> Vec<Case> {
+pub fn cases() -> Vec<Case> {
     [
         lengths(),
         bench_sheet(),
@@ -50,49 +26,13 @@ fn cases() -> Vec<Case> {
     .collect()
 }
 
-/// Record 0 of case A, written out: 1 (0,1).
-const A_0: Bytes = [1, 0, 0, 0, 1, 0, 0, 0];
-/// Record 1 of case A, written out: 0 (0,2).
-const A_1: Bytes = [0, 0, 0, 0, 2, 0, 0, 0];
-
-/// variable (low, high)
-fn used(variable: u8, low: u16, high: u16) -> Bytes {
-    let (low_0, low_1) = ((low % 256) as u8, (low / 256) as u8);
-    let (high_0, high_1) = ((high % 256) as u8, (high / 256) as u8);
-    [variable, 0, low_0, low_1, high_0, high_1, 0, 0]
-}
-
-/// The record with one byte exchanged for another.
-fn with(mut record: Bytes, position: usize, byte: u8) -> Bytes {
-    record[position] = byte;
-    record
-}
-
-fn input(table: &[Bytes], roots: &[u16], order: &[u8]) -> Input {
-    Input {
-        table: table.concat(),
-        roots: roots
-            .iter()
-            .flat_map(|root| [(root % 256) as u8, (root / 256) as u8])
-            .collect(),
-        order: order.to_vec(),
-    }
-}
-
 fn accepted(name: &'static str, used: usize, input: Input) -> Case {
-    Case {
-        name,
-        input,
-        answer: Answer::Accepted(used),
-    }
+    Case::unchanged(name, input, Question::Check, Answer::Accepted { used })
 }
 
 fn refused(name: &'static str, number: u32, place: usize, input: Input) -> Case {
-    Case {
-        name,
-        input,
-        answer: Answer::Refused { number, place },
-    }
+    let refusal = Refusal { number, place };
+    Case::unchanged(name, input, Question::Check, Answer::Refused(refusal))
 }
 
 fn lengths() -> Vec<Case> {
@@ -378,19 +318,4 @@ fn lowest_number_first() -> Vec<Case> {
         refused("7 and 8", 7, 1, input(&seven_and_eight, &[9, 2, 3], &[0])),
         refused("8 and 9", 8, 1, input(&eight_and_nine, &[1, 3], &[0])),
     ]
-}
-
-#[cfg(test)]
-mod tests {
-    use super::cases;
-    use crate::model::check;
-
-    #[test]
-    fn the_model_gives_the_answers_made_by_hand() {
-        for case in cases() {
-            let input = &case.input;
-            let answer = check(&input.table, &input.roots, &input.order);
-            assert_eq!(answer, case.answer, "{}", case.name);
-        }
-    }
 }

@@ -1,6 +1,8 @@
 //! Random inputs that Check accepts: reduced ordered shared diagrams of all
 //! sizes, from the empty table to the full one.
 
+use std::collections::HashMap;
+
 use crate::diagram::{Diagram, Edge};
 use crate::input::Input;
 use crate::layout::{Record, RecordNumber, Reference, MOST_RECORDS, MOST_ROOTS, MOST_VARIABLES};
@@ -25,7 +27,83 @@ const MOST_MISSES: usize = 100;
 /// its used records.
 pub fn accepted(random: &mut Random) -> (Input, usize) {
     let shape = random_shape(random);
-    let diagram = random_diagram(&shape, random);
+    of_shape(&shape, random)
+}
+
+/// A random accepted input on which a swap finds much to do: few variables
+/// and many records, with few, some or many free ones.
+pub fn busy(random: &mut Random) -> Input {
+    let used = random.between(1, 40);
+    let free = match random.below(3) {
+        0 => random.below(3),
+        1 => random.below(10),
+        _ => random.between(0, 2 * used),
+    };
+    let shape = Shape {
+        n: random.between(2, 7),
+        used,
+        free,
+        most_tops: random.between(1, 8),
+        function_once_in: random.between(1, 4),
+    };
+    of_shape(&shape, random).0
+}
+
+/// A random accepted input of some dozen records, with more variables than a
+/// busy one and mostly with room for many swaps.
+pub fn roomy(random: &mut Random) -> Input {
+    let shape = Shape {
+        n: random.between(6, 16),
+        used: random.between(1, 60),
+        free: random.between(0, 300),
+        most_tops: random.between(1, 8),
+        function_once_in: random.between(1, 10),
+    };
+    of_shape(&shape, random).0
+}
+
+/// A random accepted input of hundreds or thousands of records.
+pub fn big(random: &mut Random) -> Input {
+    let shape = match random.below(10) {
+        0..=2 => hundreds(random),
+        3..=4 => large(random),
+        5..=7 => longest(random),
+        _ => brimful(random),
+    };
+    of_shape(&shape, random).0
+}
+
+/// The same diagram with so many free records, and its records at random
+/// places among them.
+pub fn with_free(input: &Input, free: usize, random: &mut Random) -> Input {
+    let used: Vec<(RecordNumber, Record)> = input.store().used().collect();
+    let records = used.len() + free;
+    let mut numbers: Vec<RecordNumber> = (0..records).map(RecordNumber).collect();
+    random.shuffle(&mut numbers);
+    let old_numbers = used.iter().map(|&(number, _)| number);
+    let new_numbers: HashMap<RecordNumber, RecordNumber> = old_numbers.zip(numbers).collect();
+    let moved = |reference: Reference| match reference.record() {
+        None => reference,
+        Some(number) => Reference::to(new_numbers[&number]),
+    };
+
+    let mut result = Input::free(records, input.order.clone());
+    for (number, record) in used {
+        let record = Record {
+            low: moved(record.low),
+            high: moved(record.high),
+            ..record
+        };
+        result.set_record(new_numbers[&number], record);
+    }
+    let roots: Vec<Reference> = input.root_list().into_iter().map(moved).collect();
+    result.set_roots(&roots);
+    result
+}
+
+/// An input of this shape, and the number of its used records.
+fn of_shape(shape: &Shape, random: &mut Random) -> (Input, usize) {
+    let diagram = random_diagram(shape, random);
     let used = diagram.nodes().len();
     let records = (used + shape.free).min(MOST_RECORDS);
     let (mut input, references) = placed(&diagram, records, random_order(shape.n, random), random);
@@ -90,6 +168,18 @@ fn large(random: &mut Random) -> Shape {
         free: records - used,
         most_tops: random.between(1, MOST_ROOTS),
         function_once_in: random.between(1, 3),
+    }
+}
+
+/// 4,096 records, many of them free.
+fn longest(random: &mut Random) -> Shape {
+    let used = random.between(100, MOST_RECORDS / 2);
+    Shape {
+        n: random.between(8, MOST_VARIABLES),
+        used,
+        free: MOST_RECORDS - used,
+        most_tops: random.between(1, MOST_ROOTS),
+        function_once_in: random.between(1, 40),
     }
 }
 
@@ -205,15 +295,22 @@ fn random_roots(
 #[cfg(test)]
 mod tests {
     use super::*;
-    use crate::model::{check, Answer};
+    use crate::model::{answer, Answer, Question};
     use crate::value::value;
 
     #[test]
     fn the_model_accepts_what_is_generated() {
         for seed in 0..2_000 {
-            let (input, used) = accepted(&mut Random::from_seed(seed));
-            let answer = check(&input.table, &input.roots, &input.order);
-            assert_eq!(answer, Answer::Accepted(used), "seed {seed}");
+            let random = &mut Random::from_seed(seed);
+            let (mut input, used) = accepted(random);
+            let wanted = Answer::Accepted { used };
+            assert_eq!(answer(&mut input, &Question::Check), wanted, "seed {seed}");
+            let free = random.below(5);
+            let mut moved = with_free(&input, free, random);
+            assert_eq!(moved.free_numbers().len(), free);
+            if moved.table.len() <= 32_768 {
+                assert_eq!(answer(&mut moved, &Question::Check), wanted, "seed {seed}");
+            }
         }
     }
 

@@ -32,11 +32,7 @@ impl Input {
     }
 
     pub fn free_numbers(&self) -> Vec<RecordNumber> {
-        let store = self.store();
-        store
-            .record_numbers()
-            .filter(|&number| store.is_free(number))
-            .collect()
+        self.store().free().collect()
     }
 
     /// The level of a used record; none where a damaged order lacks its variable.
@@ -58,6 +54,11 @@ impl Input {
 
     pub fn root_list(&self) -> Vec<Reference> {
         self.store().roots().collect()
+    }
+
+    /// The root at a position; there is such a root.
+    pub fn root_at(&self, position: u32) -> Reference {
+        self.root_list()[position as usize]
     }
 
     pub fn set_roots(&mut self, roots: &[Reference]) {

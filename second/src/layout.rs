@@ -1,5 +1,7 @@
 //! What the relay stores: the buffers and their records, byte by byte.
 
+use std::collections::HashSet;
+
 /// The table has "8-byte records, 0 to 4,096 of them".
 pub const RECORD_BYTES: usize = 8;
 pub const MOST_RECORDS: usize = 4_096;
@@ -73,6 +75,11 @@ impl Record {
     pub fn children(self) -> [Reference; 2] {
         [self.low, self.high]
     }
+
+    /// The records that this one names. The constants are no records.
+    pub fn child_records(self) -> impl Iterator<Item = RecordNumber> {
+        self.children().into_iter().filter_map(Reference::record)
+    }
 }
 
 /// The buffers lent by the caller. The methods below `n` speak of whole
@@ -112,6 +119,19 @@ impl<'a> Store<'a> {
         self.record_numbers()
             .filter(move |&number| !self.is_free(number))
             .map(move |number| (number, self.record(number)))
+    }
+
+    /// The free ones, in rising record number.
+    pub fn free(self) -> impl Iterator<Item = RecordNumber> + 'a {
+        self.record_numbers()
+            .filter(move |&number| self.is_free(number))
+    }
+
+    /// The records that a root or a used record names.
+    pub fn named(self) -> HashSet<RecordNumber> {
+        let by_roots = self.roots().filter_map(Reference::record);
+        let by_records = self.used().flat_map(|(_, record)| record.child_records());
+        by_roots.chain(by_records).collect()
     }
 
     pub fn record(self, number: RecordNumber) -> Record {

@@ -1,44 +1,100 @@
 //! The second program: the relay's rules read once more, independently of the
-//! library, and both compared on tables made by hand and at random.
+//! library, and both compared on cases made by hand and at random.
 //!
-//! `layout` and `model` are the reading of the rules, `library` is the other
-//! side, `edges` has the tables made by hand, and the rest makes random ones.
+//! `layout`, `refusals`, `value`, `swap`, `slice`, `model` and `printed` are
+//! the reading of the rules, and `kept` holds that reading to what it must
+//! keep. `library` is the other side, and `hold` and `compare` ask both. The
+//! cases made by hand are in `edges` and `bench`; the rest makes random ones.
 
+mod bench;
+mod by_hand;
 mod compare;
 mod damage;
 mod diagram;
 mod edges;
 mod generate;
+mod hold;
 mod input;
+mod kept;
 mod layout;
 mod library;
 mod model;
+mod printed;
 mod random;
+mod refusals;
 mod sample;
+mod slice;
+mod swap;
 mod tally;
-#[cfg(test)]
 mod value;
 mod wild;
 
 use std::env;
+use std::path::Path;
 use std::process::ExitCode;
 
-const USAGE: &str = "usage: compare [number of random tables]";
-const DEFAULT_TABLES: u64 = 30_000;
+use crate::model::Question;
+use crate::tally::Tally;
+
+const USAGE: &str = "\
+usage: compare [check | read | show | swap | run] [number of random questions]
+       compare program PATH [number of random runs]
+without a word: all but program";
+
+/// A comparison that a word asks for.
+struct Part {
+    word: &'static str,
+    is_asked_by: fn(&Question) -> bool,
+    questions: u64,
+    compare: fn(u64) -> Result<Tally, String>,
+}
+
+const PARTS: [Part; 5] = [
+    Part {
+        word: "check",
+        is_asked_by: |question| matches!(question, Question::Check),
+        questions: compare::check::QUESTIONS,
+        compare: compare::check::compare,
+    },
+    Part {
+        word: "read",
+        is_asked_by: |question| matches!(question, Question::Read { .. }),
+        questions: compare::read::QUESTIONS,
+        compare: compare::read::compare,
+    },
+    Part {
+        word: "show",
+        is_asked_by: |question| matches!(question, Question::Show { .. }),
+        questions: compare::show::QUESTIONS,
+        compare: compare::show::compare,
+    },
+    Part {
+        word: "swap",
+        is_asked_by: |question| matches!(question, Question::Swap { .. }),
+        questions: compare::swap::QUESTIONS,
+        compare: compare::swap::compare,
+    },
+    Part {
+        word: "run",
+        is_asked_by: |question| matches!(question, Question::Run { .. }),
+        questions: compare::run::QUESTIONS,
+        compare: compare::run::compare,
+    },
+];
 
 fn main() -> ExitCode {
     let arguments: Vec<String> = env::args_os()
         .skip(1)
         .map(|argument| argument.to_string_lossy().into_owned())
         .collect();
-    let tables = match tables_wanted(&arguments) {
-        Ok(tables) => tables,
+    let wanted = match wanted(&arguments) {
+        Ok(wanted) => wanted,
         Err(message) => {
             eprintln!("compare: {message}\n{USAGE}");
             return ExitCode::from(2);
         }
     };
-    match run(tables) {
+    match run(wanted) {
         Ok(()) => ExitCode::SUCCESS,
         Err(report) => {
             eprintln!("compare: {report}");
@@ -47,21 +103,58 @@ fn main() -> ExitCode {
     }
 }
 
-fn tables_wanted(arguments: &[String]) -> Result<u64, String> {
-    match arguments {
-        [] => Ok(DEFAULT_TABLES),
-        [number] => number
-            .parse::<u32>()
-            .map(u64::from)
-            .map_err(|_| format!("'{number}' is not a number of tables")),
-        _ => Err("more than one argument".to_string()),
+/// What the arguments ask for; the number of random questions is none where
+/// each part's own shall do.
+enum Wanted<'a> {
+    Parts(&'static [Part], Option<u64>),
+    Program(&'a Path, Option<u64>),
+}
+
+fn wanted(arguments: &[String]) -> Result<Wanted<'_>, String> {
+    let Some((word, rest)) = arguments.split_first() else {
+        return Ok(Wanted::Parts(&PARTS, None));
+    };
+    if word == "program" {
+        let (path, rest) = rest.split_first().ok_or("the program's path is missing")?;
+        return Ok(Wanted::Program(Path::new(path), number(rest)?));
+    }
+    match PARTS.iter().position(|part| part.word == word) {
+        Some(place) => Ok(Wanted::Parts(&PARTS[place..=place], number(rest)?)),
+        None => Ok(Wanted::Parts(&PARTS, number(arguments)?)),
     }
 }
 
-fn run(tables: u64) -> Result<(), String> {
-    let by_hand = edges::hold_library_to_edges()?;
-    println!("tables made by hand: {by_hand}, the answers of the rules");
-    let tally = compare::random_tables(tables)?;
+fn number(arguments: &[String]) -> Result<Option<u64>, String> {
+    match arguments {
+        [] => Ok(None),
+        [number] => match number.parse::<u32>() {
+            Ok(number) => Ok(Some(u64::from(number))),
+            Err(_) => Err(format!("'{number}' is no word and no number")),
+        },
+        _ => Err("too many arguments".to_string()),
+    }
+}
+
+fn run(wanted: Wanted) -> Result<(), String> {
+    match wanted {
+        Wanted::Parts(parts, number) => {
+            for part in parts {
+                let cases = by_hand::hold_library_to_cases(part.is_asked_by)?;
+                println!("{} by hand: {cases}, the answers of the rules", part.word);
+                told((part.compare)(number.unwrap_or(part.questions))?)?;
+            }
+            Ok(())
+        }
+        Wanted::Program(path, number) => {
+            let cases = compare::program::hold_program_to_cases(path)?;
+            println!("program by hand: {cases}, the text of the rules");
+            let number = number.unwrap_or(compare::program::QUESTIONS);
+            told(compare::program::compare(path, number)?)
+        }
+    }
+}
+
+fn told(tally: Tally) -> Result<(), String> {
     print!("{tally}");
     tally.enough()
 }

@@ -45,6 +45,10 @@ impl Random {
         (0..count).map(|_| self.byte()).collect()
     }
 
+    pub fn words(&mut self, count: usize) -> Vec<u64> {
+        (0..count).map(|_| self.next()).collect()
+    }
+
     /// One of the list; none where it is empty.
     pub fn pick<T: Copy>(&mut self, list: &[T]) -> Option<T> {
         if list.is_empty() {

@@ -1,10 +1,11 @@
-//! One random input for each seed, with the kinds of damage made to it.
+//! Random inputs, accepted and damaged, with the kinds of damage made to them.
 
 use crate::damage::{Aimed, AIMED, LOOSE};
 use crate::generate::accepted;
 use crate::input::Input;
 use crate::model::Answer;
 use crate::random::Random;
+use crate::refusals::Refusal;
 use crate::wild::WILD;
 
 pub const WHOLE: &str = "whole";
@@ -12,12 +13,11 @@ pub const WHOLE: &str = "whole";
 pub struct Sample {
     pub input: Input,
     pub kinds: Vec<&'static str>,
-    /// The answer, where the making of the input tells it already.
+    /// The answer of Check, where the making of the input tells it already.
     pub known: Option<Answer>,
 }
 
-pub fn sample(seed: u64) -> Sample {
-    let random = &mut Random::from_seed(seed);
+pub fn sample(random: &mut Random) -> Sample {
     match random.below(100) {
         0..=24 => whole(random),
         25..=61 => {
@@ -51,7 +51,7 @@ fn whole(random: &mut Random) -> Sample {
     Sample {
         input,
         kinds: vec![WHOLE],
-        known: Some(Answer::Accepted(used)),
+        known: Some(Answer::Accepted { used }),
     }
 }
 
@@ -64,7 +64,7 @@ pub fn one_aimed_damage(aimed: &Aimed, random: &mut Random) -> Sample {
             return Sample {
                 input,
                 kinds: vec![aimed.name],
-                known: Some(Answer::Refused { number, place }),
+                known: Some(Answer::Refused(Refusal { number, place })),
             };
         }
     }

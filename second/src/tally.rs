@@ -1,117 +1,89 @@
-//! How many tables there were, of which answers and which kinds.
+//! How many calls there were, of which kinds, and whether they are enough.
 
-use std::collections::HashMap;
 use std::fmt;
 
-use crate::layout::MOST_RECORDS;
-use crate::model::Answer;
-use crate::sample::all_kinds;
-
-/// The answers that Check can give: accepted (0) and the refusals.
-const ANSWERS: [u32; 9] = [0, 1, 2, 4, 5, 6, 7, 8, 9];
-/// With fewer tables, or fewer of one answer, the run has shown too little.
-const FEWEST_TABLES: usize = 20_000;
-const FEWEST_OF_EACH_ANSWER: usize = 100;
-
 pub struct Tally {
-    tables: usize,
-    empty: usize,
-    full: usize,
-    answers: HashMap<u32, usize>,
-    kinds: HashMap<&'static str, usize>,
-    two_kinds: usize,
+    title: String,
+    calls: usize,
+    fewest_calls: usize,
+    lines: Vec<Line>,
+}
+
+struct Line {
+    name: String,
+    /// Met fewer times than this, the run has shown too little.
+    fewest: usize,
+    met: usize,
 }
 
 impl Tally {
-    pub fn new() -> Tally {
+    pub fn new(title: &str, fewest_calls: usize) -> Tally {
         Tally {
-            tables: 0,
-            empty: 0,
-            full: 0,
-            answers: HashMap::new(),
-            kinds: HashMap::new(),
-            two_kinds: 0,
+            title: title.to_string(),
+            calls: 0,
+            fewest_calls,
+            lines: Vec::new(),
         }
     }
 
-    pub fn count(&mut self, kinds: &[&'static str], answer: Answer) {
-        self.tables += 1;
-        match answer {
-            Answer::Accepted(0) => self.empty += 1,
-            Answer::Accepted(MOST_RECORDS) => self.full += 1,
-            _ => {}
-        }
-        *self.answers.entry(first_number(answer)).or_default() += 1;
-        for kind in kinds {
-            *self.kinds.entry(kind).or_default() += 1;
-        }
-        if kinds.len() > 1 {
-            self.two_kinds += 1;
+    /// A tally with one line more.
+    pub fn line(mut self, name: &str, fewest: usize) -> Tally {
+        self.lines.push(Line {
+            name: name.to_string(),
+            fewest,
+            met: 0,
+        });
+        self
+    }
+
+    /// A tally with a line more for the refusal of each of these numbers.
+    pub fn refusals(self, numbers: &[u32], fewest: usize) -> Tally {
+        numbers.iter().fold(self, |tally, number| {
+            tally.line(&format!("refused {number}"), fewest)
+        })
+    }
+
+    pub fn call(&mut self) {
+        self.calls += 1;
+    }
+
+    /// Counts in the line of this name. Where there is none, the model gave
+    /// what the operation cannot give.
+    pub fn count(&mut self, name: &str) {
+        let line = self.lines.iter_mut().find(|line| line.name == name);
+        let line = line.unwrap_or_else(|| panic!("{}: nothing is called '{name}'", self.title));
+        line.met += 1;
+    }
+
+    pub fn count_if(&mut self, met: bool, name: &str) {
+        if met {
+            self.count(name);
         }
     }
 
     /// Says what the run was too short to show.
     pub fn enough(&self) -> Result<(), String> {
-        if self.tables < FEWEST_TABLES {
+        if self.calls < self.fewest_calls {
             return Err(format!(
-                "only {} random tables were compared, fewer than {FEWEST_TABLES}",
-                self.tables
+                "{}: only {} were compared, fewer than {}",
+                self.title, self.calls, self.fewest_calls
             ));
         }
-        for number in ANSWERS {
-            if self.of_answer(number) < FEWEST_OF_EACH_ANSWER {
-                return Err(format!(
-                    "the answer '{}' was met {} times, fewer than {FEWEST_OF_EACH_ANSWER}",
-                    answer_name(number),
-                    self.of_answer(number)
-                ));
-            }
+        match self.lines.iter().find(|line| line.met < line.fewest) {
+            None => Ok(()),
+            Some(line) => Err(format!(
+                "{}: '{}' was met {} times, fewer than {}",
+                self.title, line.name, line.met, line.fewest
+            )),
         }
-        Ok(())
-    }
-
-    fn of_answer(&self, number: u32) -> usize {
-        self.answers.get(&number).copied().unwrap_or(0)
-    }
-
-    fn of_kind(&self, name: &str) -> usize {
-        self.kinds.get(name).copied().unwrap_or(0)
-    }
-}
-
-/// 0 for accepted, or the refusal's number.
-fn first_number(answer: Answer) -> u32 {
-    match answer {
-        Answer::Accepted(_) => 0,
-        Answer::Refused { number, .. } => number,
-    }
-}
-
-fn answer_name(number: u32) -> String {
-    match number {
-        0 => "accepted".to_string(),
-        _ => format!("refused {number}"),
     }
 }
 
 impl fmt::Display for Tally {
     fn fmt(&self, out: &mut fmt::Formatter) -> fmt::Result {
-        writeln!(out, "random tables: {}, the same answers", self.tables)?;
-        for number in ANSWERS {
-            writeln!(
-                out,
-                "  {:<36}{:>7}",
-                answer_name(number),
-                self.of_answer(number)
-            )?;
-        }
-        writeln!(out, "accepted with no used record: {}", self.empty)?;
-        writeln!(out, "accepted with 4,096 used records: {}", self.full)?;
-        writeln!(out, "with two damages at once: {}", self.two_kinds)?;
-        writeln!(out, "kinds, and the refusal that a damage aims at:")?;
-        for (aim, name) in all_kinds() {
-            let aim = aim.map_or("-".to_string(), |number| number.to_string());
-            writeln!(out, "  {aim} {name:<34}{:>7}", self.of_kind(name))?;
+        writeln!(out, "{}: {}, all the same", self.title, self.calls)?;
+        for line in &self.lines {
+            writeln!(out, "  {:<46}{:>7}", line.name, line.met)?;
         }
         Ok(())
     }

@@ -6,7 +6,7 @@ use lib.ListN.{length}
 use Rattle.lists.specs.Count.{count}
 use Rattle.orders.specs.Permutation.{badPlace, levelOf}
 use Rattle.diagrams.specs.Layout.{records, rootCount, isUsed}
-use Rattle.checks.specs.Stages.{Stage, stage, whole, judge}
+use Rattle.checks.specs.Stages.{Stage, stage, stageAt, judge}
 use Rattle.checks.specs.Tests.{badSizes, malformed, notBelow, lowIsHigh, repeats, deadRoot, idle}
 use Rattle.checks.specs.declared.Verdict.{Verdict}
 use Rattle.checks.specs.declared.Verdict.the-variants as verdict
@@ -29,7 +29,7 @@ tableStages t r o =
     ∷ []
 
 unfoldable pub checkStages : List ℕ → List ℕ → List ℕ → List Stage
-checkStages t r o = stage 1 (whole (badSizes t r o)) 1 ∷ orderStage 2 o ∷ tableStages t r o
+checkStages t r o = stageAt 1 0 (badSizes t r o) ∷ orderStage 2 o ∷ tableStages t r o
 
 abbrev pub used : List ℕ → ℕ
 used t = count (isUsed t) (records t)

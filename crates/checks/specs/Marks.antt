@@ -34,22 +34,22 @@ unmarked t l i = isUsed t i && not (eqb (getD l (i + 2) 0) 1)
 
 -- ---- what a mark says
 
-abbrev marked : List ℕ → ℕ → Bool
+abbrev pub marked : List ℕ → ℕ → Bool
 marked l x = eqb (getD l x 0) 1
 
 or-true : (a : Bool) → true ≡ (a || true)
 or-true true = refl
 or-true false = refl
 
-or-false : (a : Bool) → a ≡ (a || false)
+pub or-false : (a : Bool) → a ≡ (a || false)
 or-false true = refl
 or-false false = refl
 
-or-assoc : (a b c : Bool) → ((a || b) || c) ≡ (a || (b || c))
+pub or-assoc : (a b c : Bool) → ((a || b) || c) ≡ (a || (b || c))
 or-assoc true b c = refl
 or-assoc false b c = refl
 
-mark : (l : List ℕ) (y x : ℕ) → x < length l → marked (set l y 1) x ≡ (marked l x || eqb y x)
+pub mark : (l : List ℕ) (y x : ℕ) → x < length l → marked (set l y 1) x ≡ (marked l x || eqb y x)
 mark l y x h = go (eqb y x) refl
   where
     go : (b : Bool) → eqb y x ≡ b → marked (set l y 1) x ≡ (marked l x || b)
@@ -59,12 +59,12 @@ mark l y x h = go (eqb y x) refl
 -- steps that each mark the references they name: in the end what some step names is marked
 module _ (f : List ℕ → ℕ → List ℕ) (names : ℕ → ℕ → Bool) (long : (l : List ℕ) (k : ℕ) → length (f l k) ≡ length l)
     (step : (l : List ℕ) (k x : ℕ) → x < length l → marked (f l k) x ≡ (marked l x || names x k)) where
-  fold-long : (l : List ℕ) (k : ℕ) → length (fold f l k) ≡ length l
+  pub fold-long : (l : List ℕ) (k : ℕ) → length (fold f l k) ≡ length l
   unfolding fold
   fold-long l zero = refl
   fold-long l (suc k) = long (fold f l k) k ∙ fold-long l k
 
-  fold-marks : (l : List ℕ) (k x : ℕ) → x < length l → marked (fold f l k) x ≡ (marked l x || any (names x) k)
+  pub fold-marks : (l : List ℕ) (k x : ℕ) → x < length l → marked (fold f l k) x ≡ (marked l x || any (names x) k)
   unfolding fold
   fold-marks l zero x h = rw any-none (or-false (marked l x))
   fold-marks l (suc k) x h =
@@ -73,11 +73,11 @@ module _ (f : List ℕ → ℕ → List ℕ) (names : ℕ → ℕ → Bool) (lon
       ∙ or-assoc (marked l x) (any (names x) k) (names x k)
       ∙ ap (λ b. marked l x || b) (sym (any-more (names x) k))
 
-root-long : (r l : List ℕ) (k : ℕ) → length (markedRoot r l k) ≡ length l
+pub root-long : (r l : List ℕ) (k : ℕ) → length (markedRoot r l k) ≡ length l
 unfolding markedRoot
 root-long r l k = simp length-set
 
-root-marks : (r l : List ℕ) (k x : ℕ) → x < length l → marked (markedRoot r l k) x ≡ (marked l x || rootNames r x k)
+pub root-marks : (r l : List ℕ) (k x : ℕ) → x < length l → marked (markedRoot r l k) x ≡ (marked l x || rootNames r x k)
 unfolding markedRoot rootNames
 root-marks r l k x h = mark l (rootAt r k) x h
 
@@ -100,11 +100,11 @@ record-marks t l i x h = go (isUsed t i)
         ∙ or-assoc (marked l x) (eqb (lowAt t i) x) (eqb (highAt t i) x)
     go false = or-false (marked l x)
 
-length-no-marks : length noMarks ≡ mostRecords + 2
+pub length-no-marks : length noMarks ≡ mostRecords + 2
 unfolding noMarks
 length-no-marks = length-replicate {A = ℕ} (mostRecords + 2) 0
 
-none-marked : (x : ℕ) → x < mostRecords + 2 → getD noMarks x 0 ≡ 0
+pub none-marked : (x : ℕ) → x < mostRecords + 2 → getD noMarks x 0 ≡ 0
 unfolding noMarks
 none-marked x h = getD-replicate {A = ℕ} (mostRecords + 2) x 0 0 h
 

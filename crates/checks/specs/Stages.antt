@@ -1,12 +1,15 @@
 -- "Checks run in the order of their numbers, each over the whole buffer before the next, so the lowest number that applies is the one given."
-use Prim.Native.Nat.{ℕ, _≤_, _<_}
-use mathlib.Core.Bool.{Bool, true, false, cond}
-use mathlib.Core.List.{List, [], _∷_}
+use Prim.Native.Nat.{ℕ, suc, _≤_, _<_}
+use mathlib.Core.Bool.{Bool, true, false, cond, _&&_}
+use mathlib.Core.List.{List, [], _∷_, _++_}
 use mathlib.Core.Logic.{_⊎_, inl, inr, ⊎-elim}
 use mathlib.Core.Path.{_≡_, refl, sym, ap, _∙_}
 use native.Mathlib.Omega.{arith}
-use borrow.Author.Tests.{lt-ltb, le-ltb, ltb-true, ltb-false}
-use Rattle.lists.specs.First.{first, any, Passed, first-none, first-at, first-passed, first-holds}
+use lib.Dec.{eqb}
+use borrow.Author.Tests.{eq-eqb, ne-eqb, lt-ltb, le-ltb, ltb-true, ltb-false}
+use native.Mathlib.Nat.{le-refl}
+use native.Mathlib.Numerals.{add-one}
+use Rattle.lists.specs.First.{first, any, Passed, passed-more, first-none, first-at, first-passed, first-holds}
 use Rattle.checks.specs.declared.Verdict.{Verdict}
 use Rattle.checks.specs.declared.Verdict.the-variants.{Clear, Refused}
 
@@ -14,9 +17,12 @@ use Rattle.checks.specs.declared.Verdict.the-variants.{Clear, Refused}
 pub data Stage : Type 0 where
   stage : (number : ℕ) (test : ℕ → Bool) (places : ℕ) → Stage
 
--- the test of a check that has place 0 only
-unfoldable pub whole : Bool → ℕ → Bool
-whole b place = b
+-- the test of a check that has one place only
+unfoldable pub only : ℕ → Bool → ℕ → Bool
+only place b x = eqb x place && b
+
+abbrev pub stageAt : (number place : ℕ) (test : Bool) → Stage
+stageAt number place test = stage number (only place test) (suc place)
 
 -- the number and the first place of a check that fails somewhere, else what the later checks say
 unfoldable pub judged : ℕ → (ℕ → Bool) → ℕ → Verdict → Verdict
@@ -27,14 +33,6 @@ judge [] = Clear
 judge (stage k p n ∷ ss) = judged k p n (judge ss)
 
 -- ---- how code walks the stages
-pub whole-refuses : (k : ℕ) (q b : Bool) (later : Verdict) → b ≡ q → b ≡ true → Refused k 0 ≡ judged k (whole q) 1 later
-unfolding judged first whole
-whole-refuses k q b later e h = rw (sym e ∙ h)
-
-pub whole-passes : (k : ℕ) (q b : Bool) (v later : Verdict) → b ≡ q → b ≡ false → v ≡ later → v ≡ judged k (whole q) 1 later
-unfolding judged first whole
-whole-passes k q b v later e h r = rw (sym e ∙ h) r
-
 pub stage-refuses : (k n x : ℕ) (p : ℕ → Bool) (later : Verdict) → x ≡ first p n → x < n → Refused k x ≡ judged k p n later
 unfolding judged
 stage-refuses k n x p later e h = ap (Refused k) e ∙ ap (λ y. cond y (Refused k (first p n)) later) (sym (lt-ltb (first p n) n (rw e at h)))
@@ -43,8 +41,55 @@ pub stage-passes : (k n x : ℕ) (p : ℕ → Bool) (v later : Verdict) → x �
 unfolding judged
 stage-passes k n x p v later e h r = r ∙ ap (λ y. cond y (Refused k (first p n)) later) (sym (le-ltb (first p n) n (rw e at h)))
 
+only-before : (p : ℕ) (q : Bool) → Passed (only p q) p
+unfolding only
+only-before p q = record { at = λ k l. rw (ne-eqb k p (λ e. omega arith)) }
+
+only-at : (p : ℕ) (q : Bool) → only p q p ≡ q
+unfolding only
+only-at p q = rw (eq-eqb p p refl)
+
+pub only-passed : (p : ℕ) {q : Bool} → q ≡ false → Passed (only p q) (suc p)
+only-passed p {q} e = rw (add-one p) at (passed-more (only-before p q) (only-at p q ∙ e))
+
+pub passed-only : (p : ℕ) {q : Bool} → Passed (only p q) (suc p) → q ≡ false
+passed-only p {q} h = sym (only-at p q) ∙ h .at p (le-refl (suc p))
+
+pub place-refuses : (k p : ℕ) (q b : Bool) (later : Verdict) → b ≡ q → b ≡ true → Refused k p ≡ judged k (only p q) (suc p) later
+place-refuses k p q b later e h = stage-refuses k (suc p) p (only p q) later (sym (first-at (only p q) (suc p) p (only-before p q) (only-at p q ∙ sym e ∙ h) (le-refl (suc p)))) (le-refl (suc p))
+
+pub place-passes : (k p : ℕ) (q b : Bool) (v later : Verdict) → b ≡ q → b ≡ false → v ≡ later → v ≡ judged k (only p q) (suc p) later
+place-passes k p q b v later e h r =
+    stage-passes k (suc p) (suc p) (only p q) v later (sym (first-none (only p q) (suc p) (only-passed p (sym e ∙ h)))) (le-refl (suc p)) r
+
+-- ---- one row of stages after another
+unfoldable pub orElse : Verdict → Verdict → Verdict
+orElse Clear later = later
+orElse (Refused k x) later = Refused k x
+
+judged-else : (k n : ℕ) (p : ℕ → Bool) (v later : Verdict) → judged k p n (orElse v later) ≡ orElse (judged k p n v) later
+unfolding judged orElse
+judged-else k n p v later = go (any p n)
+  where
+    go : (b : Bool) → cond b (Refused k (first p n)) (orElse v later) ≡ orElse (cond b (Refused k (first p n)) v) later
+    go true = refl
+    go false = refl
+
+pub judge-row : (ss more : List Stage) → judge (ss ++ more) ≡ orElse (judge ss) (judge more)
+unfolding orElse
+judge-row [] more = refl
+judge-row (stage k p n ∷ ss) more = ap (judged k p n) (judge-row ss more) ∙ judged-else k n p (judge ss) (judge more)
+
+pub row-refuses : (ss more : List Stage) (k x : ℕ) {v : Verdict} → v ≡ judge ss → v ≡ Refused k x → Refused k x ≡ judge (ss ++ more)
+unfolding orElse
+row-refuses ss more k x e h = ap (λ w. orElse w (judge more)) (sym h ∙ e) ∙ sym (judge-row ss more)
+
+pub row-passes : (ss more : List Stage) {v w : Verdict} → v ≡ judge ss → v ≡ Clear → w ≡ judge more → w ≡ judge (ss ++ more)
+unfolding orElse
+row-passes ss more e h r = r ∙ ap (λ u. orElse u (judge more)) (sym h ∙ e) ∙ sym (judge-row ss more)
+
 -- `search chain` answers each return of code that goes through the stages
-pub ruleset chain = (whole-refuses, whole-passes, stage-refuses, stage-passes)
+pub ruleset chain = (place-refuses, place-passes, stage-refuses, stage-passes)
 
 -- ---- what a verdict means
 -- every check passes everywhere

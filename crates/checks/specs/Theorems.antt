@@ -1,11 +1,11 @@
 -- What Check answers, and when.
 use Prim.Native.Nat.{ℕ, _≤_, _<_}
-use mathlib.Core.List.{List, [], _∷_}
+use mathlib.Core.List.{List, [], _∷_, _++_, append-nil}
 use mathlib.Core.Path.{_≡_, refl, ap, sym, _∙_}
 use native.Mathlib.Omega.{arith}
 use Rattle.lists.specs.Count.{count-small}
 use Rattle.diagrams.specs.Layout.{mostRecords, records, isUsed}
-use Rattle.checks.specs.Stages.{Stage, stage, whole, judge, FailsFirst, here, later, clear-if, clear-only, refused-if, refused-only}
+use Rattle.checks.specs.Stages.{Stage, stage, passed-only, judge, FailsFirst, here, later, clear-if, clear-only, refused-if, refused-only}
 use Rattle.checks.specs.Check.{tableStages, checkStages, used, answered, checkOf, CheckOutcome}
 use Rattle.checks.specs.Meaning.{Sizes, sizes-if}
 use Rattle.checks.specs.Usable.{Usable, usable-if, usable-then, all-pass, passes-all}
@@ -24,7 +24,7 @@ answer-clear : (v : Verdict) (n c : ℕ) → answered v n ≡ Accepted c → (v 
 answer-clear verdict.Clear n c e = (refl, cc)
 answer-clear (verdict.Refused k x) n c e = let z : _≡_ {A = ℕ} 0 1 = cc in absurd (omega arith)
 
-answer-refused : (v : Verdict) (n k x : ℕ) → answered v n ≡ Refused k x → v ≡ verdict.Refused k x
+pub answer-refused : (v : Verdict) (n k x : ℕ) → answered v n ≡ Refused k x → v ≡ verdict.Refused k x
 answer-refused verdict.Clear n k x e = let z : _≡_ {A = ℕ} 0 1 = cc in absurd (omega arith)
 answer-refused (verdict.Refused j y) n k x e = let a : j ≡ k = cc in let b : y ≡ x = cc in rw (a, b)
 
@@ -49,7 +49,7 @@ check-one t r o p q = p ∙ sym q
 
 -- ---- an answer's numbers are small
 -- no stage has more than m places
-Bounded : ℕ → List Stage → Type 0
+unfoldable pub Bounded : ℕ → List Stage → Type 0
 Bounded m [] = Unit {0}
 Bounded m (stage k p n ∷ ss) = (n ≤ m) × Bounded m ss
 
@@ -58,21 +58,27 @@ unfolding Bounded
 place-below m (stage k p n ∷ ss) _ x b (here l e h) = omega (arith, b .0)
 place-below m (stage k p n ∷ ss) j x b (later h f) = place-below m ss j x (b .1) f
 
-table-bounded : (t r o : List ℕ) → Sizes t r o → Bounded mostRecords (tableStages t r o)
+table-bounded : (t r o : List ℕ) (more : List Stage) (m : ℕ) → mostRecords ≤ m → Bounded m more → Sizes t r o → Bounded m (tableStages t r o ++ more)
 unfolding Bounded tableStages
-table-bounded t r o s =
-    let few : records t ≤ mostRecords = omega (arith, s .few-records) in
-    (few, (few, (few, (few, (omega (arith, s .few-roots), (few, tt))))))
+table-bounded t r o more m g b s =
+    let few : records t ≤ m = omega (arith, s .few-records) in
+    (few, (few, (few, (few, (omega (arith, s .few-roots), (few, b))))))
 
-first-below : (t r o : List ℕ) (k x : ℕ) → FailsFirst (checkStages t r o) k x → x < mostRecords
-unfolding checkStages whole Bounded
-first-below t r o k x (here l e h) = omega arith
-first-below t r o k x (later h f) =
-    let s : Sizes t r o = sizes-if t r o (h .at 0 (omega arith)) in
-    place-below mostRecords _ k x (omega (arith, s .few-variables), table-bounded t r o s) f
+-- the place of a refusal, by Check's stages or by more after them
+pub place-small : (t r o : List ℕ) (more : List Stage) (m k x : ℕ) → mostRecords ≤ m → Bounded m more → judge (checkStages t r o ++ more) ≡ verdict.Refused k x → x < m
+unfolding checkStages Bounded
+place-small t r o more m k x g b e = go k x (refused-only (checkStages t r o ++ more) k x e)
+  where
+    go : (j y : ℕ) → FailsFirst (checkStages t r o ++ more) j y → y < m
+    go j y (here l d h) = omega arith
+    go j y (later h f) =
+        let s : Sizes t r o = sizes-if t r o (passed-only 0 h) in
+        place-below m _ j y (omega (arith, s .few-variables), table-bounded t r o more m g b s) f
 
-pub place-small : (t r o : List ℕ) (k x : ℕ) → checkOf t r o ≡ Refused k x → x < mostRecords
-place-small t r o k x e = first-below t r o k x (refuses-only t r o k x e)
+pub check-place-small : (t r o : List ℕ) (m k x : ℕ) → mostRecords ≤ m → checkOf t r o ≡ Refused k x → x < m
+unfolding checkOf Bounded
+check-place-small t r o m k x g e =
+    place-small t r o [] m k x g tt (ap judge (append-nil (checkStages t r o)) ∙ answer-refused (judge (checkStages t r o)) (used t) k x e)
 
 pub used-small : (t r o : List ℕ) (n : ℕ) → checkOf t r o ≡ Accepted n → n ≤ mostRecords
 used-small t r o n e =

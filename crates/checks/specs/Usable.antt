@@ -19,7 +19,7 @@ use Rattle.diagrams.specs.Bryant.{Vertex, Ordered, Bryant}
 use Rattle.diagrams.specs.Diagram.{Named, Diagram}
 use Rattle.diagrams.specs.Reduced.{bryant-of, diagram-of, look-plain}
 use Rattle.checks.specs.Tests.{badSizes, malformed, notBelow, lowIsHigh, repeats, deadRoot, idle}
-use Rattle.checks.specs.Stages.{whole, AllPass, none, also}
+use Rattle.checks.specs.Stages.{only-passed, passed-only, AllPass, none, also}
 use Rattle.checks.specs.Check.{tableStages, checkStages}
 use Rattle.checks.specs.Meaning.{Sizes, sizes-if, sizes-then, Dead, Same, NotUnder, NamedByRoot, NamedByRecord, named-says, malformed-says, zeros-says, empty-says, below-says, equal-says, repeats-says, root-says, idle-says}
 use Rattle.checks.specs.declared.Verdict.the-variants as verdict
@@ -43,13 +43,13 @@ pub record Passes (t r o : List ℕ) : Type 0 where
   pub c9 : Passed (idle t r) (records t)
 
 pub all-pass : (t r o : List ℕ) → Passes t r o → AllPass (checkStages t r o)
-unfolding checkStages tableStages whole
-all-pass t r o p = also (record { at = λ i l. p .c1 }) (also (p .c2) (also (p .c4) (also (p .c5) (also (p .c6) (also (p .c7) (also (p .c8) (also (p .c9) none)))))))
+unfolding checkStages tableStages
+all-pass t r o p = also (only-passed 0 (p .c1)) (also (p .c2) (also (p .c4) (also (p .c5) (also (p .c6) (also (p .c7) (also (p .c8) (also (p .c9) none)))))))
 
 pub passes-all : (t r o : List ℕ) → AllPass (checkStages t r o) → Passes t r o
-unfolding checkStages tableStages whole
+unfolding checkStages tableStages
 passes-all t r o (also h1 (also h2 (also h4 (also h5 (also h6 (also h7 (also h8 (also h9 none)))))))) =
-    record { c1 = h1 .at 0 (omega arith); c2 = h2; c4 = h4; c5 = h5; c6 = h6; c7 = h7; c8 = h8; c9 = h9 }
+    record { c1 = passed-only 0 h1; c2 = h2; c4 = h4; c5 = h5; c6 = h6; c7 = h7; c8 = h8; c9 = h9 }
 
 -- ---- a reference that is not dead is a vertex, and back
 

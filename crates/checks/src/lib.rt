@@ -11,9 +11,9 @@ use diagrams::RECORD_SIZE;
 use diagrams::ROOT_SIZE;
 use orders::Order;
 
-mod names;
+pub mod names;
 mod records;
-mod sizes;
+pub mod sizes;
 
 // What a row of checks finds.
 pub enum Verdict {

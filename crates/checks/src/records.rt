@@ -3,7 +3,7 @@ ghost use mathlib.Core.Path.{_≡_};
 ghost use Prim.Native.Nat.{_+_, _*_, _<_, _≤_};
 ghost use lib.ListN.{length};
 ghost use Rattle.lists.specs.First.{first};
-ghost use Rattle.lists.specs.Count.{bit, count};
+ghost use Rattle.lists.specs.Count.{count};
 ghost use Rattle.orders.specs.Permutation.{ceiling};
 ghost use Rattle.orders.specs.Order.{levelIn};
 ghost use Rattle.diagrams.specs.Layout.{recordSize, records, isUsed};
@@ -174,12 +174,6 @@ pub fn first_repeat(table: &[u8]) -> usize
 
 // ---- the number of used records
 
-fn one(b: bool) -> usize
-    ensures { λ x. ⌜ (x ≡ bit b) × (x ≤ 1) ⌝ }
-{
-    if b { 1 } else { 0 }
-}
-
 pub fn count_used(table: &[u8]) -> usize
     ensures { λ x. ⌜ x ≡ count (isUsed (now (table .entry))) (records (now (table .entry))) ⌝ }
 {
@@ -187,7 +181,7 @@ pub fn count_used(table: &[u8]) -> usize
     let mut found: usize = 0;
     let mut i = 0;
     while i < m {
-        found += one(RecordNumber(i).is_used(table));
+        found += diagrams::one(RecordNumber(i).is_used(table));
         i += 1;
     }
     found

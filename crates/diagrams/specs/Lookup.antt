@@ -3,7 +3,6 @@ use Prim.Native.Nat.{ℕ, zero, suc, _≤_, _<_}
 use mathlib.Core.Bool.{Bool, true, false, cond}
 use mathlib.Core.List.{List}
 use mathlib.Core.Path.{_≡_, refl, ap, sym, _∙_}
-use native.Mathlib.Omega.{arith}
 use borrow.Author.Tests.{ne-eqb, eqb-false}
 use lib.ListN.{length, getD, List·getD-eq-default}
 use Rattle.lists.specs.Says.{either-side}
@@ -11,6 +10,7 @@ use Rattle.lists.specs.Tabulate.{tabulate, length-tabulate, getD-tabulate}
 use Rattle.diagrams.specs.Layout.{records, rootCount, variableAt, lowAt, highAt, isFree, rootAt}
 use Rattle.diagrams.specs.Node.{Node, free, node, at, ref, look}
 use Rattle.diagrams.specs.Decode.{Used, nodeAt, decode}
+use Rattle.diagrams.specs.Levels.{free-node}
 use Rattle.diagrams.specs.Bryant.{Nonterminal}
 
 -- the roots as references
@@ -33,9 +33,6 @@ past-decode : (t : List ℕ) (i : ℕ) → records t ≤ i → at (decode t) i �
 unfolding decode
 past-decode t i b = List·getD-eq-default (tabulate (records t) (nodeAt t)) free (rw (length-tabulate (records t) (nodeAt t)) b)
 
-free-node : {X : Type 0} {m : Node} {v l h : ℕ} → m ≡ free → m ≡ node v l h → X
-free-node p q = let z : _≡_ {A = ℕ} 0 1 = cc in absurd (omega arith)
-
 module _ (t : List ℕ) where
   pub node-of : (i : ℕ) → i < records t → Used t i → lookup t (ref i) ≡ node (variableAt t i) (lowAt t i) (highAt t i)
   unfolding look nodeAt
@@ -44,6 +41,10 @@ module _ (t : List ℕ) where
   pub free-of : (i : ℕ) → i < records t → variableAt t i ≡ 255 → lookup t (ref i) ≡ free
   unfolding look nodeAt
   free-of i b e = at-decode t i b ∙ rw e
+
+  pub past-of : (i : ℕ) → records t ≤ i → lookup t (ref i) ≡ free
+  unfolding look
+  past-of i b = past-decode t i b
 
   stored-at : (i v l h : ℕ) → i < records t → nodeAt t i ≡ node v l h → Stored t (ref i) v l h
   unfolding nodeAt

@@ -1,8 +1,12 @@
 // The three kinds of number, and the layout of a table and of its roots: only these functions know which byte holds what.
 ghost use mathlib.Core.Path.{_≡_};
-ghost use Prim.Native.Nat.{_+_, _-_, _*_, _<_, _≤_};
+ghost use Prim.Native.Nat.{_+_, _-_, _*_, _/_, _%_, _<_, _≤_};
 ghost use lib.Dec.{ltb};
 ghost use lib.ListN.{length};
+ghost use Rattle.lists.specs.Count.{bit};
+ghost use Rattle.diagrams.specs.Node.{free, node};
+ghost use Rattle.diagrams.specs.Decode.{eight, nodeAt};
+ghost use Rattle.diagrams.specs.Store.{laid, storedAt, Fit};
 ghost use Rattle.diagrams.specs.Layout.{recordSize, rootSize, variableAt, pairAt, lowAt, highAt, rootAt, isFree, isUsed, zeroBytes};
 
 // An input of the relay.
@@ -13,6 +17,13 @@ pub struct Reference(pub usize);
 
 // Where a record stands in the table.
 pub struct RecordNumber(pub usize);
+
+// A record's fields; 255 stands for the variable of a free one.
+pub struct Fields {
+    pub variable: Variable,
+    pub low: Reference,
+    pub high: Reference,
+}
 
 // Bytes in a record, and in a root.
 pub const RECORD_SIZE: usize = 8;
@@ -49,6 +60,13 @@ pub fn wide(x: u8) -> usize
     x as usize
 }
 
+// A flag as a number.
+pub fn one(b: bool) -> usize
+    ensures { λ x. ⌜ (x ≡ bit b) × (x ≤ 1) ⌝ }
+{
+    if b { 1 } else { 0 }
+}
+
 // The two bytes at `at`, little end first.
 fn pair(s: &[u8], at: usize) -> usize
     requires { ⌜ at + 2 ≤ length (now s) ⌝ }
@@ -60,7 +78,7 @@ fn pair(s: &[u8], at: usize) -> usize
 impl RecordNumber {
     pub fn variable(self, table: &[u8]) -> Variable
         requires { ⌜ recordSize * self .0 + recordSize ≤ length (now table) ⌝ }
-        ensures { λ v. ⌜ v .0 ≡ variableAt (now (table .entry)) (self .0) ⌝ }
+        ensures { λ v. ⌜ (v .0 ≡ variableAt (now (table .entry)) (self .0)) × (v .0 < 256) ⌝ }
     {
         let at = RECORD_SIZE * self.0;
         Variable(wide(table[at]))
@@ -102,6 +120,72 @@ impl RecordNumber {
     {
         let at = RECORD_SIZE * self.0;
         (table[at + 1] == 0) & (table[at + 6] == 0) & (table[at + 7] == 0)
+    }
+}
+
+fn low_byte(x: usize) -> u8
+    ensures { λ b. ⌜ b ≡ x % 256 ⌝ }
+{
+    (x % 256) as u8
+}
+
+fn high_byte(x: usize) -> u8
+    requires { ⌜ x < 65536 ⌝ }
+    ensures { λ b. ⌜ b ≡ x / 256 ⌝ }
+{
+    (x / 256) as u8
+}
+
+impl Fields {
+    pub fn free() -> Fields
+        ensures { λ f. ⌜ (laid f ≡ eight free) × Fit f ⌝ }
+    {
+        Fields {
+            variable: Variable(FREE),
+            low: Reference(0),
+            high: Reference(0),
+        }
+    }
+
+    pub fn used(variable: Variable, low: Reference, high: Reference) -> Fields
+        requires { ⌜ ((variable .0 < 256) × (low .0 < 65536)) × (high .0 < 65536) ⌝ }
+        ensures { λ f. ⌜ (laid f ≡ eight (node (variable .0) (low .0) (high .0))) × Fit f ⌝ }
+    {
+        Fields {
+            variable,
+            low,
+            high,
+        }
+    }
+
+    // Record i of the table.
+    pub fn of(table: &[u8], i: RecordNumber) -> Fields
+        requires { ⌜ recordSize * i .0 + recordSize ≤ length (now table) ⌝ }
+        ensures { λ f. ⌜ (laid f ≡ eight (nodeAt (now (table .entry)) (i .0))) × Fit f ⌝ }
+    {
+        if i.is_free(table) {
+            return Fields::free();
+        }
+        Fields::used(i.variable(table), i.low(table), i.high(table))
+    }
+
+    // Into record i of the table.
+    pub fn store(self, table: &mut [u8], i: RecordNumber)
+        requires { ⌜ (recordSize * i .0 + recordSize ≤ length (now table)) × Fit self ⌝ }
+        ensures { λ _. ⌜ now (table .exit) ≡ storedAt (now (table .entry)) (i .0) (laid self) ⌝ }
+    {
+        let at = RECORD_SIZE * i.0;
+        let variable = self.variable.0;
+        let low = self.low.0;
+        let high = self.high.0;
+        table[at] = low_byte(variable);
+        table[at + 1] = 0;
+        table[at + 2] = low_byte(low);
+        table[at + 3] = high_byte(low);
+        table[at + 4] = low_byte(high);
+        table[at + 5] = high_byte(high);
+        table[at + 6] = 0;
+        table[at + 7] = 0;
     }
 }
 

@@ -4,3 +4,8 @@ pub mod Says
 pub mod Onto
 pub mod Tabulate
 pub mod Fold
+pub mod Keep
+pub mod Total
+pub mod Which
+pub mod Collect
+pub mod Copy

@@ -5,6 +5,7 @@ ghost use lib.ListN.{length, getD};
 ghost use Rattle.lists.specs.First.{first};
 ghost use Rattle.orders.specs.Permutation.{ceiling, holdsAt, badPlace, Permutation};
 ghost use Rattle.orders.specs.Order.{Inverse, startOrder, loadOrder, levelIn, exchangedOrder};
+ghost use Rattle.orders.specs.Arranged.{bytesOf};
 use diagrams::Variable;
 use diagrams::wide;
 
@@ -52,7 +53,7 @@ impl Order {
 
     pub fn variable_at(self, level: usize) -> Variable
         requires { ⌜ level < ceiling ⌝ }
-        ensures { λ v. ⌜ v .0 ≡ getD (self .variables) level 0 ⌝ }
+        ensures { λ v. ⌜ (v .0 ≡ getD (self .variables) level 0) × (v .0 < 256) ⌝ }
     {
         Variable(wide(self.variables[level]))
     }
@@ -83,7 +84,21 @@ impl Order {
         o.levels[lower as usize] = level as u8;
         o
     }
+
+    // The bytes of its first levels, as many as are lent.
+    pub fn store(self, bytes: &mut [u8])
+        requires { ⌜ length (now bytes) ≤ ceiling ⌝ }
+        ensures { λ _. ⌜ now (bytes .exit) ≡ bytesOf self (length (now (bytes .entry))) ⌝ }
+    {
+        let mut k = 0;
+        while k < bytes.len() {
+            bytes[k] = self.variables[k];
+            k += 1;
+        }
+    }
 }
+
+mod plans;
 
 // ---- an order that isn't a permutation
 

@@ -1,30 +1,32 @@
 -- Laws of writing an answer, over plain variables.
-use Prim.Native.Nat.{ℕ, zero, suc, _≤_, _<_}
+use Prim.Native.Nat.{ℕ, zero, suc, _-_, _≤_, _<_}
 use mathlib.Core.List.{List, _++_}
 use mathlib.Core.Path.{_≡_, ap, sym, _∙_}
-use native.Mathlib.Nat.{zero-add}
 use native.Mathlib.Omega.{arith}
 use borrow.Author.Tests.{lt-ltb, le-ltb}
 use lib.ListN.{length, getD, set, drop}
-use lib.Seq.{paste, paste-zero, paste-suc, take-length}
+use lib.Seq.{take-length}
+use Rattle.lists.specs.Copy.{copied, copied-first}
 use Rattle.lists.specs.Fold.{fold, Steps, steps-end}
-use Rattle.checks.specs.Check.{CheckOutcome, numbers}
-use Rattle.checks.specs.Theorems.{used-small, place-small}
+use Rattle.checks.specs.Check.{CheckOutcome}
+use Rattle.checks.specs.Theorems.{used-small, check-place-small}
 use Rattle.checks.specs.declared.Answer.{Answer}
-use Rattle.checks.specs.declared.Answer.the-variants.{Accepted, Refused}
-use Rattle.relay.specs.Written.{Written, written}
-
--- one number more
-unfoldable pub copied : List ℕ → List ℕ → ℕ → List ℕ
-copied numbers list i = set list i (getD numbers i 0)
-
-copied-first : (numbers list : List ℕ) (k : ℕ) → k ≤ length numbers → length numbers ≤ length list → fold (copied numbers) list k ≡ paste list 0 numbers k
-unfolding fold copied
-copied-first numbers list zero h g = paste-zero list 0 numbers
-copied-first numbers list (suc k) h g =
-    ap (λ l. set l k (getD numbers k 0)) (copied-first numbers list k (omega arith) g)
-    ∙ ap (λ i. set (paste list 0 numbers k) i (getD numbers k 0)) (sym (zero-add k))
-    ∙ paste-suc list 0 numbers k 0 (omega arith) (omega arith)
+use Rattle.checks.specs.declared.Answer.the-variants as check
+use Rattle.reading.specs.Read.{ReadOutcome}
+use Rattle.reading.specs.Show.{partOf}
+use Rattle.reading.specs.Parts.{part-small}
+use Rattle.reading.specs.Theorems.{read-place-small}
+use Rattle.reading.specs.declared.Part.{Part}
+use Rattle.reading.specs.declared.Reading.{Reading}
+use Rattle.reading.specs.declared.Reading.the-variants as reading
+use Rattle.swaps.specs.Outcome as swap
+use Rattle.swaps.specs.Outcome.{SwapOutcome}
+use Rattle.swaps.specs.declared.Swapping.{Swapping}
+use Rattle.slices.specs.Run as run
+use Rattle.slices.specs.Run.{RunOutcome}
+use Rattle.slices.specs.declared.Slice.{Slice}
+use Rattle.relay.specs.Written.{Written, written, narrowed, told}
+use Rattle.relay.specs.Told.{toldSwap, toldRun}
 
 pub too-short : (numbers list : List ℕ) → length list < length numbers → record { count = 0; list = list } ≡ written list numbers
 unfolding written
@@ -38,16 +40,65 @@ written-all numbers list {m} {i} {l} s e p h =
     steps-end s e
     ∙ ap (fold (copied numbers) list) p
     ∙ copied-first numbers list (length numbers) (omega arith) (omega arith)
-    ∙ rw (take-length numbers, zero-add (length numbers)) in
+    ∙ rw (take-length numbers) in
     rw (le-ltb (length list) (length numbers) (omega arith), p, q)
 
--- ---- the answer of Check, told
+-- ---- what a call tells, and that its numbers fit
 
-pub tells : (list : List ℕ) {w : Written} {a b c : Answer} → w ≡ written list (numbers a) → b ≡ c → b ≡ a → w ≡ written list (numbers c)
-tells list {w} {a} {b} {c} e p q = e ∙ ap (λ z. written list (numbers z)) (sym q ∙ p)
+module _ {A : Type 0} (numbers : A → List ℕ) (list : List ℕ) {w : Written} {a c : A} where
+  pub tells-it : w ≡ written list (numbers a) → a ≡ c → w ≡ written list (numbers c)
+  tells-it e p = e ∙ ap (λ z. written list (numbers z)) p
 
-pub used-fits : (t r o : List ℕ) {a : Answer} (n : ℕ) → CheckOutcome t r o a → a ≡ Accepted n → n < 4294967296
-used-fits t r o n p q = omega (arith, used-small t r o n (sym p ∙ q))
+  -- an answer b that was taken apart
+  pub tells : {b : A} → w ≡ written list (numbers a) → b ≡ c → b ≡ a → w ≡ written list (numbers c)
+  tells e p q = tells-it e (sym q ∙ p)
 
-pub place-fits : (t r o : List ℕ) {a : Answer} (k x : ℕ) → CheckOutcome t r o a → a ≡ Refused k x → x < 4294967296
-place-fits t r o k x p q = omega (arith, place-small t r o k x (sym p ∙ q))
+abbrev limit : ℕ
+limit = 4294967296
+
+module _ (t r o : List ℕ) where
+  pub used-fits : {a : Answer} (n : ℕ) → CheckOutcome t r o a → a ≡ check.Accepted n → n < limit
+  used-fits n p q = omega (arith, used-small t r o n (sym p ∙ q))
+
+  pub check-place-fits : {a : Answer} (k x : ℕ) → CheckOutcome t r o a → a ≡ check.Refused k x → x < limit
+  check-place-fits k x p q = omega (arith, check-place-small t r o limit k x (omega arith) (sym p ∙ q))
+
+  pub read-place-fits : {a : Reading} (position : ℕ) (inputs : List ℕ) (k x : ℕ) → ReadOutcome t r o position inputs a → a ≡ reading.Refused k x → position < limit → x < limit
+  read-place-fits position inputs k x p q l = read-place-small t r o position inputs limit k x (omega arith) l (sym p ∙ q)
+
+  module _ (position : ℕ) {p : Part} (is : p ≡ partOf t r o position) where
+    end-fits : p .1 < limit
+    end-fits = rw is (omega (arith, part-small t r o position))
+
+    pub from-fits : p .0 ≤ p .1 → p .0 < limit
+    from-fits l = omega (arith, end-fits)
+
+    pub length-fits : p .1 - p .0 < limit
+    length-fits = omega (arith, end-fits)
+
+-- ---- a call that may change a table and an order
+
+pub narrow-tells : {A : Type 0} (numbers : A → List ℕ) (list : List ℕ) {w : Written} {a b : A} {l : List ℕ} → w ≡ written list l → b ≡ a → l ≡ narrowed (numbers a) → w ≡ written list (narrowed (numbers b))
+narrow-tells numbers list e p q = e ∙ ap (written list) q ∙ ap (λ z. written list (narrowed (numbers z))) (sym p)
+
+pub told-nothing : (most : ℕ) (list t o numbers t′ o′ : List ℕ) → length list < most → record { written = record { count = 0; list = list }; table = t; order = o } ≡ told most list t o numbers t′ o′
+unfolding told
+told-nothing most list t o numbers t′ o′ h = rw (lt-ltb (length list) most h)
+
+pub told-swap : (list t r o : List ℕ) (k : ℕ) {w : Written} {a : Swapping} {t′ o′ : List ℕ} → SwapOutcome t r o k a t′ o′ → w ≡ written list (narrowed (swap.numbers a)) → 4 ≤ length list
+    → record { written = w; table = t′; order = o′ } ≡ toldSwap list t r o k
+unfolding toldSwap told
+told-swap list t r o k e p h = rw (p, le-ltb (length list) 4 h, ← e)
+
+pub told-run : (list t r o g : List ℕ) (budget : ℕ) {w : Written} {a : Slice} {t′ o′ : List ℕ} → RunOutcome t r o g budget a t′ o′ → w ≡ written list (narrowed (run.numbers a)) → 6 ≤ length list
+    → record { written = w; table = t′; order = o′ } ≡ toldRun list t r o g budget
+unfolding toldRun told
+told-run list t r o g budget e p h = rw (p, le-ltb (length list) 6 h, ← e)
+
+pub swap-nothing : (list t r o : List ℕ) (k : ℕ) → length list < 4 → record { written = record { count = 0; list = list }; table = t; order = o } ≡ toldSwap list t r o k
+unfolding toldSwap
+swap-nothing list t r o k h = told-nothing 4 list t o _ _ _ h
+
+pub run-nothing : (list t r o g : List ℕ) (budget : ℕ) → length list < 6 → record { written = record { count = 0; list = list }; table = t; order = o } ≡ toldRun list t r o g budget
+unfolding toldRun
+run-nothing list t r o g budget h = told-nothing 6 list t o _ _ _ h

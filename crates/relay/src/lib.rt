@@ -1,8 +1,17 @@
 // The static library for C and Rust: each entry, with its answer as a list of numbers. include/relay.h declares it.
 ghost use mathlib.Core.Path.{_≡_};
-ghost use Rattle.checks.specs.Check.{checkOf, numbers};
-ghost use Rattle.relay.specs.Written.{written};
+ghost use Rattle.checks.specs.Check as check;
+ghost use Rattle.reading.specs.Read as read;
+ghost use Rattle.reading.specs.Show as show;
+ghost use Rattle.swaps.specs.Outcome as swap;
+ghost use Rattle.slices.specs.Run as run;
+ghost use Prim.Native.Nat.{_%_};
+ghost use Rattle.relay.specs.Written.{written, narrowed};
+ghost use Rattle.relay.specs.Told.{toldSwap, toldRun};
 use checks::Answer;
+use reading::Reading;
+use slices::Slice;
+use swaps::Swapping;
 
 // The numbers at the front of the list; how many, or 0 where they don't fit.
 fn write(list: &mut [u32], numbers: &[u32]) -> usize
@@ -22,7 +31,7 @@ fn write(list: &mut [u32], numbers: &[u32]) -> usize
 
 #[no_mangle]
 pub extern "C" fn relay_check(table: &[u8], roots: &[u8], order: &[u8], answer: &mut [u32]) -> usize
-    ensures { λ n. ⌜ record { count = n; list = now (answer .exit) } ≡ written (now (answer .entry)) (numbers (checkOf (now (table .entry)) (now (roots .entry)) (now (order .entry)))) ⌝ }
+    ensures { λ n. ⌜ record { count = n; list = now (answer .exit) } ≡ written (now (answer .entry)) (check.numbers (check.checkOf (now (table .entry)) (now (roots .entry)) (now (order .entry)))) ⌝ }
 {
     match checks::check(table, roots, order) {
         Answer::Accepted(used) => {
@@ -36,4 +45,147 @@ pub extern "C" fn relay_check(table: &[u8], roots: &[u8], order: &[u8], answer: 
             write(answer, &numbers)
         }
     }
+}
+
+#[no_mangle]
+pub extern "C" fn relay_read(
+    table: &[u8],
+    roots: &[u8],
+    order: &[u8],
+    position: u32,
+    inputs: &[u8],
+    answer: &mut [u32],
+) -> usize
+    ensures { λ n. ⌜ record { count = n; list = now (answer .exit) } ≡ written (now (answer .entry)) (read.numbers (read.readOf (now (table .entry)) (now (roots .entry)) (now (order .entry)) position (now (inputs .entry)))) ⌝ }
+{
+    match reading::read(table, roots, order, position as usize, inputs) {
+        Reading::Value(value) => {
+            let numbers = [0u32, value as u32];
+            write(answer, &numbers)
+        }
+        Reading::Refused { number, place } => {
+            let number = number as u32;
+            let place = place as u32;
+            let refusal = [number, place];
+            write(answer, &refusal)
+        }
+    }
+}
+
+// Where the part that `reading::show` hands back begins, and its length.
+#[no_mangle]
+pub extern "C" fn relay_show(
+    table: &[u8],
+    roots: &[u8],
+    order: &[u8],
+    position: u32,
+    answer: &mut [u32],
+) -> usize
+    ensures { λ n. ⌜ record { count = n; list = now (answer .exit) } ≡ written (now (answer .entry)) (show.numbers (show.partOf (now (table .entry)) (now (roots .entry)) (now (order .entry)) position)) ⌝ }
+{
+    let part = reading::place(table, roots, order, position as usize);
+    let from = part.0 as u32;
+    let length = (part.1 - part.0) as u32;
+    let numbers = [from, length];
+    write(answer, &numbers)
+}
+
+fn narrow(x: usize) -> u32
+    ensures { λ r. ⌜ r ≡ x % 4294967296 ⌝ }
+{
+    (x % 4294967296) as u32
+}
+
+fn tell_swap(answer: &mut [u32], a: Swapping) -> usize
+    ensures { λ n. ⌜ record { count = n; list = now (answer .exit) } ≡ written (now (answer .entry)) (narrowed (swap.numbers a)) ⌝ }
+{
+    match a {
+        Swapping::Made => {
+            let numbers = [0u32];
+            write(answer, &numbers)
+        }
+        Swapping::NoRoom {
+            level,
+            needed,
+            free,
+        } => {
+            let numbers = [100u32, narrow(level), narrow(needed), narrow(free)];
+            write(answer, &numbers)
+        }
+        Swapping::Refused { number, place } => {
+            let numbers = [narrow(number as usize), narrow(place)];
+            write(answer, &numbers)
+        }
+    }
+}
+
+#[no_mangle]
+pub extern "C" fn relay_swap(
+    table: &mut [u8],
+    roots: &[u8],
+    order: &mut [u8],
+    level: u32,
+    answer: &mut [u32],
+) -> usize
+    ensures { λ n. ⌜ record { written = record { count = n; list = now (answer .exit) }; table = now (table .exit); order = now (order .exit) } ≡ toldSwap (now (answer .entry)) (now (table .entry)) (now (roots .entry)) (now (order .entry)) level ⌝ }
+{
+    if answer.len() < 4 {
+        return 0;
+    }
+    let a = swaps::swap(table, roots, order, level as usize);
+    tell_swap(answer, a)
+}
+
+fn tell_run(answer: &mut [u32], a: Slice) -> usize
+    ensures { λ n. ⌜ record { count = n; list = now (answer .exit) } ≡ written (now (answer .entry)) (narrowed (run.numbers a)) ⌝ }
+{
+    match a {
+        Slice::Done { swaps, left } => {
+            let numbers = [0u32, narrow(swaps), narrow(left)];
+            write(answer, &numbers)
+        }
+        Slice::NoRoom {
+            swaps,
+            left,
+            level,
+            needed,
+            free,
+        } => {
+            let numbers = [
+                100u32,
+                narrow(swaps),
+                narrow(left),
+                narrow(level),
+                narrow(needed),
+                narrow(free),
+            ];
+            write(answer, &numbers)
+        }
+        Slice::Paused { swaps, left } => {
+            let numbers = [101u32, narrow(swaps), narrow(left)];
+            write(answer, &numbers)
+        }
+        Slice::Refused { number, place } => {
+            let numbers = [narrow(number as usize), narrow(place)];
+            write(answer, &numbers)
+        }
+    }
+}
+
+#[no_mangle]
+pub extern "C" fn relay_run(
+    table: &mut [u8],
+    roots: &[u8],
+    order: &mut [u8],
+    target: &[u8],
+    budget: u32,
+    answer: &mut [u32],
+) -> usize
+    ensures { λ n. ⌜ record { written = record { count = n; list = now (answer .exit) }; table = now (table .exit); order = now (order .exit) } ≡ toldRun (now (answer .entry)) (now (table .entry)) (now (roots .entry)) (now (order .entry)) (now (target .entry)) budget ⌝ }
+{
+    if answer.len() < 6 {
+        return 0;
+    }
+    let a = slices::run(table, roots, order, target, budget);
+    tell_run(answer, a)
 }

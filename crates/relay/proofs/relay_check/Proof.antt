@@ -1,5 +1,6 @@
 use borrow.Author.Needs.{needs}
-use Rattle.relay.proofs.Laws.{tells, used-fits, place-fits}
+use Rattle.checks.specs.Check.{numbers}
+use Rattle.relay.proofs.Laws.{tells, used-fits, check-place-fits}
 use Rattle.relay.proofs.relay_check.Statement.{statement}
 use Rattle.relay.proofs.relay_check.Tie as tie
 
@@ -14,10 +15,10 @@ relay-check-spec =
     (λ c κs. search needs)
     (λ c. search needs)
     (λ c. search needs)
-    (λ c. search place-fits)
+    (λ c. search check-place-fits)
     (λ c. search needs)
     (λ c κs. search needs)
     (λ c. search needs)
-    (λ c. search tells)
+    (λ c. search (tells numbers))
     (λ c. search needs)
-    (λ c. search tells))
+    (λ c. search (tells numbers)))

@@ -2,8 +2,9 @@ use Prim.Native.Nat.{_-_}
 use mathlib.Core.Path.{_≡_, refl}
 use native.Mathlib.Omega.{arith}
 use lib.ListN.{length}
+use Rattle.lists.specs.Copy.{copied}
 use Rattle.lists.specs.Fold.{Steps, steps-go, steps}
-use Rattle.relay.proofs.Laws.{copied, too-short, written-all}
+use Rattle.relay.proofs.Laws.{too-short, written-all}
 use Rattle.relay.proofs.write.Statement.{statement}
 use Rattle.relay.proofs.write.Tie as tie
 

@@ -1,0 +1,21 @@
+use borrow.Author.Needs.{needs}
+use Rattle.reading.proofs.Laws.{showing, no-constant}
+use Rattle.reading.proofs.place.Statement.{statement}
+use Rattle.reading.proofs.place.Tie as tie
+
+pub place-spec : {M : Type 1} → statement M
+place-spec =
+    tie.close
+    (tie.spec
+    (λ c κs. search needs)
+    (λ c. search needs)
+    (λ c. search showing)
+    (λ c. search needs)
+    (λ c. search showing)
+    (λ c κs. search needs)
+    (λ c κs. search needs)
+    (λ c. search showing)
+    (λ c κs. search no-constant)
+    (λ c. search needs)
+    (λ c. search needs)
+    (λ c. search showing))

@@ -1,0 +1,10 @@
+use mathlib.Core.Path.{refl}
+use borrow.Author.Needs.{needs}
+use Rattle.reading.proofs.show.Statement.{statement}
+use Rattle.reading.proofs.show.Tie as tie
+
+returns : tie.Need-returns
+returns c = record { the-bytes = rw (c .before .place .ensures .0); the-place = rw (c .before .place .ensures .0) }
+
+pub show-spec : {M : Type 1} → statement M
+show-spec = tie.close (tie.spec (λ c κs. search needs) (λ c. search needs) (λ c. search needs) (λ c. search needs) returns)

@@ -1,0 +1,4 @@
+pub mod Read
+pub mod Show
+pub mod Parts
+pub mod Theorems

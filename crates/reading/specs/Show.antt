@@ -1,0 +1,46 @@
+-- Show: "the eight bytes of the caller's own table are handed back, as that part of it and not a copy. The part is empty exactly for a
+-- refused table (1, 2, 4 to 9), no such root, or a constant root".
+use Prim.Native.Nat.{ℕ, _+_, _-_, _*_}
+use mathlib.Core.Bool.{Bool, true, false, cond, _&&_}
+use mathlib.Core.List.{List, [], _∷_, _++_}
+use mathlib.Core.Path.{_≡_}
+use lib.Dec.{leb}
+use lib.ListN.{length, take, drop}
+use Rattle.diagrams.specs.Layout.{recordSize, rootCount, rootAt}
+use Rattle.checks.specs.Stages.{Stage, stageAt, judge}
+use Rattle.checks.specs.Check.{checkStages}
+use Rattle.checks.specs.declared.Verdict.{Verdict}
+use Rattle.checks.specs.declared.Verdict.the-variants.{Clear, Refused}
+use Rattle.reading.specs.Read.{noRoot}
+use Rattle.reading.specs.declared.Part.{Part}
+
+abbrev pub isClear : Verdict → Bool
+isClear Clear = true
+isClear (Refused number place) = false
+
+unfoldable pub showStages : List ℕ → List ℕ → List ℕ → ℕ → List Stage
+showStages t r o position = checkStages t r o ++ (stageAt 10 position (noRoot r position) ∷ [])
+
+-- an accepted table, such a root, and no constant
+unfoldable pub shows : List ℕ → List ℕ → List ℕ → ℕ → Bool
+shows t r o position = isClear (judge (showStages t r o position)) && leb 2 (rootAt r position)
+
+abbrev pub noPart : Part
+noPart = record { 0 = 0; 1 = 0 }
+
+-- record i of a table
+abbrev pub partAt : ℕ → Part
+partAt i = record { 0 = recordSize * i; 1 = recordSize * i + recordSize }
+
+-- where the part that is handed back begins and ends
+unfoldable pub partOf : List ℕ → List ℕ → List ℕ → ℕ → Part
+partOf t r o position = cond (shows t r o position) (partAt (rootAt r position - 2)) noPart
+
+-- what Show may hand back: these bytes, at this place of the caller's own memory (a pointer is a block and a byte in it)
+pub record ShowOutcome (t r o : List ℕ) (position : ℕ) (table shown : ℕ × ℕ) (bytes : List ℕ) : Type 0 where
+  pub the-bytes : bytes ≡ take (partOf t r o position .1 - partOf t r o position .0) (drop (partOf t r o position .0) t)
+  pub the-place : shown ≡ (table .0, partOf t r o position .0 + table .1)
+
+-- the numbers of a part: where it begins, and its length
+abbrev pub numbers : Part → List ℕ
+numbers p = p .0 ∷ (p .1 - p .0) ∷ []

@@ -1,0 +1,159 @@
+// Read the value of a root under inputs, and show a root's record.
+ghost use mathlib.Core.Path.{_≡_};
+ghost use Prim.Native.Nat.{_≤_, _<_};
+ghost use lib.ListN.{length};
+ghost use Rattle.lists.specs.First.{first};
+ghost use Rattle.lists.specs.Count.{bit};
+ghost use Rattle.diagrams.specs.Lookup.{lookup};
+ghost use Rattle.diagrams.specs.Value.{chosen, value};
+ghost use Rattle.reading.specs.Read.{inputOf, noInput, badInputs, ReadOutcome};
+ghost use Rattle.reading.specs.Show.{partOf, ShowOutcome};
+use checks::Verdict;
+use diagrams::RECORD_SIZE;
+use diagrams::ROOT_SIZE;
+use diagrams::Reference;
+use diagrams::Variable;
+
+pub enum Reading {
+    Value(u8),
+    Refused { number: u8, place: usize },
+}
+
+// Where a part of the table begins and ends.
+pub struct Part(pub usize, pub usize);
+
+// ---- the value of a reference
+
+fn input(inputs: &[u8], v: Variable) -> bool
+    ensures { λ b. ⌜ b ≡ inputOf (now (inputs .entry)) (v .0) ⌝ }
+{
+    let at = v.0;
+    if inputs.len() <= at {
+        return false;
+    }
+    inputs[at] == 1
+}
+
+// The low or high reference of the record that x names, by its variable's input; x itself where it names none.
+fn child(table: &[u8], inputs: &[u8], x: Reference) -> Reference
+    ensures { λ r. ⌜ r .0 ≡ chosen (inputOf (now (inputs .entry))) (lookup (now (table .entry)) (x .0)) (x .0) ⌝ }
+{
+    if x.is_constant() {
+        return x;
+    }
+    let i = x.record();
+    if table.len() / RECORD_SIZE <= i.0 {
+        return x;
+    }
+    if i.is_free(table) {
+        return x;
+    }
+    if input(inputs, i.variable(table)) {
+        return i.high(table);
+    }
+    i.low(table)
+}
+
+// The value of x, with so many levels left to fall through.
+fn reads_true(table: &[u8], inputs: &[u8], x: Reference, levels: usize) -> bool
+    ensures { λ b. ⌜ b ≡ value (lookup (now (table .entry))) (inputOf (now (inputs .entry))) levels (x .0) ⌝ }
+{
+    if x.is_constant() {
+        return x.0 == 1;
+    }
+    if levels == 0 {
+        return x.0 == 1;
+    }
+    reads_true(table, inputs, child(table, inputs, x), levels - 1)
+}
+
+// ---- 11
+
+fn is_no_input(inputs: &[u8], k: usize) -> bool
+    requires { ⌜ k < length (now inputs) ⌝ }
+    ensures { λ b. ⌜ b ≡ noInput (now (inputs .entry)) k ⌝ }
+{
+    1 < inputs[k]
+}
+
+fn first_no_input(inputs: &[u8]) -> usize
+    ensures { λ x. ⌜ x ≡ first (noInput (now (inputs .entry))) (length (now (inputs .entry))) ⌝ }
+{
+    let m = inputs.len();
+    let mut k = 0;
+    while k < m {
+        if is_no_input(inputs, k) {
+            return k;
+        }
+        k += 1;
+    }
+    m
+}
+
+fn bad_inputs(order: &[u8], inputs: &[u8]) -> bool
+    ensures { λ b. ⌜ b ≡ badInputs (now (order .entry)) (now (inputs .entry)) ⌝ }
+{
+    !(inputs.len() == order.len()) | (first_no_input(inputs) < inputs.len())
+}
+
+// ---- the entries
+
+fn number(b: bool) -> u8
+    ensures { λ x. ⌜ x ≡ bit b ⌝ }
+{
+    if b { 1 } else { 0 }
+}
+
+pub fn read(table: &[u8], roots: &[u8], order: &[u8], position: usize, inputs: &[u8]) -> Reading
+    ensures { λ a. ⌜ ReadOutcome (now (table .entry)) (now (roots .entry)) (now (order .entry)) position (now (inputs .entry)) a ⌝ }
+{
+    let verdict = checks::judge_all(table, roots, order);
+    if let Verdict::Refused { number, place } = verdict {
+        return Reading::Refused { number, place };
+    }
+    if roots.len() / ROOT_SIZE <= position {
+        return Reading::Refused {
+            number: 10,
+            place: position,
+        };
+    }
+    if bad_inputs(order, inputs) {
+        return Reading::Refused {
+            number: 11,
+            place: 0,
+        };
+    }
+    let root = diagrams::root(roots, position);
+    Reading::Value(number(reads_true(table, inputs, root, order.len())))
+}
+
+// Where the record of a root lies in the table; 0 to 0 where there is nothing to show.
+pub fn place(table: &[u8], roots: &[u8], order: &[u8], position: usize) -> Part
+    ensures { λ p. ⌜ (p ≡ partOf (now (table .entry)) (now (roots .entry)) (now (order .entry)) position) × ((p .0 ≤ p .1) × (p .1 ≤ length (now (table .entry)))) ⌝ }
+{
+    let verdict = checks::judge_all(table, roots, order);
+    if let Verdict::Refused {
+        number: _,
+        place: _,
+    } = verdict {
+        return Part(0, 0);
+    }
+    if roots.len() / ROOT_SIZE <= position {
+        return Part(0, 0);
+    }
+    let root = diagrams::root(roots, position);
+    if root.is_constant() {
+        return Part(0, 0);
+    }
+    let at = RECORD_SIZE * root.record().0;
+    Part(at, at + RECORD_SIZE)
+}
+
+pub fn show<'a>(table: &'a [u8], roots: &[u8], order: &[u8], position: usize) -> &'a [u8]
+    ensures { λ s. ⌜ ShowOutcome (now (table .entry)) (now (roots .entry)) (now (order .entry)) position (table .entry .ptr) (s .ptr) (now s) ⌝ }
+{
+    let p = place(table, roots, order, position);
+    let from = p.0;
+    let to = p.1;
+    &table[from..to]
+}

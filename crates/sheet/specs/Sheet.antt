@@ -1,0 +1,94 @@
+-- Cases A to H of the bench sheet: "a single table of examples under one claim that covers every row". Each row is one run, over the bytes.
+use Prim.Native.Nat.{ℕ, _/_, _%_}
+use mathlib.Core.List.{List, [], _∷_, map}
+use mathlib.Core.Path.{_≡_, refl}
+use Rattle.lists.specs.First.{first}
+use Rattle.lists.specs.Count.{count}
+use Rattle.lists.specs.Total.{total, pairs}
+use Rattle.lists.specs.Tabulate.{tabulate}
+use Rattle.lists.specs.Keep.{keep, once, each, which}
+use Rattle.diagrams.specs.Node.{Node, free, node, look}
+use Rattle.diagrams.specs.Decode.{nodeAt, decode, eight, encode}
+use Rattle.diagrams.specs.Lookup.{rootsOf}
+use Rattle.orders.specs.Permutation.{holdsAt, badPlace, levelOf}
+use Rattle.orders.specs.Exchange.{exchange}
+use Rattle.orders.specs.Inversions.{inverted, left}
+use Rattle.orders.specs.Plans.{differsAt, same?, bringUp}
+use Rattle.checks.specs.Stages.{only, judged}
+use Rattle.checks.specs.Tests.{badSizes, dead, malformed, notUnder, notBelow, lowIsHigh, sameRecord, repeats, deadRoot, rootNames, recordNames, idle}
+use Rattle.checks.specs.Check.{tableStages}
+use Rattle.swaps.specs.Record.{lowOf, highOf, isFreeNode, isOf, same}
+use Rattle.swaps.specs.Swap as one
+use Rattle.swaps.specs.Swap.{grandchild, f00, f01, f10, f11, crosses, asked, stands, isNew, wanted, news, names, dies, slots, slotOf, X, becomes, needed, freeCount, fits, turn, filled, swapped}
+use Rattle.swaps.specs.Outcome.{tableAfter}
+use Rattle.slices.specs.Slices as over
+use Rattle.slices.specs.Slices.{arrived, next, goes, made, slice}
+use Rattle.slices.specs.Run.{Ran, relay, badRunSizes, runStages, answerOf, ranTo, runOf}
+use Rattle.slices.specs.declared.Slice.{Slice}
+use Rattle.slices.specs.declared.Slice.the-variants.{Done, NoRoom, Paused}
+
+-- the buffers and the budget of a run
+pub record Given : Type 0 where
+  pub records : List Node
+  pub roots : List ℕ
+  pub order : List ℕ
+  pub target : List ℕ
+  pub budget : ℕ
+
+-- its answer, and the records and the order afterwards
+pub record Row : Type 0 where
+  pub given : Given
+  pub answer : Slice
+  pub records : List Node
+  pub order : List ℕ
+
+-- a root is two bytes, little end first
+unfoldable pub rootBytes : List ℕ → List ℕ
+rootBytes [] = []
+rootBytes (x ∷ s) = x % 256 ∷ x / 256 ∷ rootBytes s
+
+-- what the run gives, by the definition in its contract
+unfoldable pub outcome : Row → Ran
+outcome row = let g = row .given in runOf (encode (g .records)) (rootBytes (g .roots)) (g .order) (g .target) (g .budget)
+
+-- what the sheet says
+unfoldable pub expected : Row → Ran
+expected row = record { answer = row .answer; table = encode (row .records); order = row .order }
+
+-- order 0 1, target 1 0, budget 1
+unfoldable pub swap : List Node → List ℕ → Slice → List Node → List ℕ → Row
+swap t r a t′ o = record { given = record { records = t; roots = r; order = 0 ∷ 1 ∷ []; target = 1 ∷ 0 ∷ []; budget = 1 }; answer = a; records = t′; order = o }
+
+-- no records, no roots
+unfoldable pub orders : List ℕ → List ℕ → ℕ → Slice → List ℕ → Row
+orders o g b a o′ = record { given = record { records = []; roots = []; order = o; target = g; budget = b }; answer = a; records = []; order = o′ }
+
+unfoldable pub rows : List Row
+rows =
+    -- A
+    swap (node 1 0 1 ∷ node 0 0 2 ∷ free ∷ []) (3 ∷ []) (Done 1 0) (free ∷ node 1 0 4 ∷ node 0 0 1 ∷ []) (1 ∷ 0 ∷ [])
+    -- B: A with only records 0 and 1
+    ∷ swap (node 1 0 1 ∷ node 0 0 2 ∷ []) (3 ∷ []) (NoRoom 0 1 0 1 0) (node 1 0 1 ∷ node 0 0 2 ∷ []) (0 ∷ 1 ∷ [])
+    -- C: A with roots 3 and 2: record 0 stays
+    ∷ swap (node 1 0 1 ∷ node 0 0 2 ∷ free ∷ []) (3 ∷ 2 ∷ []) (Done 1 0) (node 1 0 1 ∷ node 1 0 4 ∷ node 0 0 1 ∷ []) (1 ∷ 0 ∷ [])
+    -- D: none free, needed 0
+    ∷ swap (node 1 0 1 ∷ node 0 0 2 ∷ node 0 0 1 ∷ []) (3 ∷ 4 ∷ []) (Done 1 0) (free ∷ node 1 0 4 ∷ node 0 0 1 ∷ []) (1 ∷ 0 ∷ [])
+    -- E: a swap alters the order only
+    ∷ swap (node 0 0 1 ∷ node 1 0 1 ∷ []) (2 ∷ 3 ∷ []) (Done 1 0) (node 0 0 1 ∷ node 1 0 1 ∷ []) (1 ∷ 0 ∷ [])
+    -- F: exclusive or; and with one record fewer
+    ∷ swap (node 1 0 1 ∷ node 1 1 0 ∷ node 0 2 3 ∷ free ∷ free ∷ []) (4 ∷ []) (Done 1 0) (free ∷ free ∷ node 1 5 6 ∷ node 0 0 1 ∷ node 0 1 0 ∷ []) (1 ∷ 0 ∷ [])
+    ∷ swap (node 1 0 1 ∷ node 1 1 0 ∷ node 0 2 3 ∷ free ∷ []) (4 ∷ []) (NoRoom 0 1 0 2 1) (node 1 0 1 ∷ node 1 1 0 ∷ node 0 2 3 ∷ free ∷ []) (0 ∷ 1 ∷ [])
+    -- G: by way of 0 2 1 and 2 0 1; budget 2 gives paused, left 1
+    ∷ orders (0 ∷ 1 ∷ 2 ∷ []) (2 ∷ 1 ∷ 0 ∷ []) 1 (Paused 1 2) (0 ∷ 2 ∷ 1 ∷ [])
+    ∷ orders (0 ∷ 1 ∷ 2 ∷ []) (2 ∷ 1 ∷ 0 ∷ []) 2 (Paused 2 1) (2 ∷ 0 ∷ 1 ∷ [])
+    ∷ orders (0 ∷ 1 ∷ 2 ∷ []) (2 ∷ 1 ∷ 0 ∷ []) 9 (Done 3 0) (2 ∷ 1 ∷ 0 ∷ [])
+    -- H: three swaps, by way of 1 0 2 3 and 1 0 3 2
+    ∷ orders (0 ∷ 1 ∷ 2 ∷ 3 ∷ []) (1 ∷ 3 ∷ 0 ∷ 2 ∷ []) 1 (Paused 1 2) (1 ∷ 0 ∷ 2 ∷ 3 ∷ [])
+    ∷ orders (0 ∷ 1 ∷ 2 ∷ 3 ∷ []) (1 ∷ 3 ∷ 0 ∷ 2 ∷ []) 2 (Paused 2 1) (1 ∷ 0 ∷ 3 ∷ 2 ∷ [])
+    ∷ orders (0 ∷ 1 ∷ 2 ∷ 3 ∷ []) (1 ∷ 3 ∷ 0 ∷ 2 ∷ []) 9 (Done 3 0) (1 ∷ 3 ∷ 0 ∷ 2 ∷ [])
+    ∷ []
+
+-- every row comes out as the sheet has it
+pub sheet : map outcome rows ≡ map expected rows
+unfolding outcome expected rows swap orders rootBytes nodeAt decode eight encode rootsOf runOf runStages badRunSizes badSizes only judged holdsAt badPlace levelOf tableStages dead malformed notUnder notBelow lowIsHigh sameRecord repeats deadRoot rootNames recordNames idle ranTo answerOf relay slice over.after over.judge made goes next arrived same? differsAt bringUp exchange left inverted pairs total first count tabulate keep once each which look lowOf highOf isFreeNode isOf same grandchild f00 f01 f10 f11 crosses asked stands isNew wanted news names dies slots slotOf X becomes needed freeCount fits turn filled one.after swapped tableAfter
+sheet = refl

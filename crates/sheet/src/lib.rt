@@ -1,0 +1,1 @@
+// The proved cases of the bench sheet, in specs/. No code.

@@ -1,0 +1,254 @@
+-- One law for each way out of a function, over plain variables: its premises are what is known there.
+use Prim.Native.Nat.{ℕ, _+_, _*_, _%_, _≤_, _<_}
+use mathlib.Core.Bool.{Bool, true, false, cond, not, _&&_, _||_}
+use mathlib.Core.List.{List}
+use mathlib.Core.Path.{_≡_, refl, ap, sym, _∙_}
+use native.Mathlib.Omega.{arith}
+use borrow.Author.Tests.{not-true, not-false, eqb-true}
+use lib.Dec.{eqb}
+use lib.ListN.{length, getD, take}
+use lib.Seq.{getD-take}
+use Rattle.lists.specs.First.{Passed, first, first-passed}
+use Rattle.lists.specs.Says.{true-false}
+use Rattle.orders.specs.Permutation.{ceiling, Permutation, badPlace, permutation-if}
+use Rattle.orders.specs.Exchange.{exchange}
+use Rattle.orders.specs.Order.{loadOrder, exchangedOrder, Inverse}
+use Rattle.orders.specs.Inversions.{left, Adjacent}
+use Rattle.orders.specs.Plans.{same?, bringUp, bring-up-lawful}
+use Rattle.orders.specs.Arranged.{bytesOf, Arranged, load-bytes, load-arranged, arranged-length, arranged-inverse, exchanged-arranged, exchanged-bytes, arranged-adjacent}
+use Rattle.orders.specs.declared.Order.{Order}
+use Rattle.diagrams.specs.Layout.{recordSize, mostRecords, records}
+use Rattle.diagrams.specs.Node.{at}
+use Rattle.diagrams.specs.Decode.{decode}
+use Rattle.diagrams.specs.Lookup.{rootsOf}
+use Rattle.checks.specs.Meaning.{Sizes, sizes-if}
+use Rattle.checks.specs.Tests.{badSizes}
+use Rattle.checks.specs.Stages as stages
+use Rattle.checks.specs.Stages.{AllPass, also, passed-only, clear-only, chain}
+use Rattle.checks.specs.declared.Verdict.{Verdict}
+use Rattle.checks.specs.declared.Verdict.the-variants as verdict
+use Rattle.swaps.specs.Swap.{xAt, yAt, needed, freeCount}
+use Rattle.swaps.specs.Outcome.{fitsIn, roomOf, tableAfter, RoomOutcome, room-fits, room-lacks}
+use Rattle.swaps.specs.Bytes.{no-room-only}
+use Rattle.swaps.specs.declared.Room.{Room}
+use Rattle.swaps.specs.declared.Room.the-variants as room
+use Rattle.slices.specs.Slices as over
+use Rattle.slices.specs.Slices.{slicing-goes, slicing-rests, slicing-ends}
+use Rattle.slices.specs.Run.{State, relay, badRunSizes, runStages, answerOf, ranTo, runJudged, runOf, stateOf, Stepped, Driven}
+use Rattle.slices.specs.declared.Slice.{Slice}
+use Rattle.slices.specs.declared.Slice.the-variants.{Done, NoRoom, Paused, Refused}
+use Rattle.slices.specs.declared.Turn.{Turn}
+use Rattle.slices.specs.declared.Left.{Left}
+
+-- ---- the refusals
+
+pub sizes-right : {b : Bool} (t r o g : List ℕ) → b ≡ badRunSizes t r o g → b ≡ false → badSizes t r o ≡ false
+unfolding badRunSizes
+sizes-right t r o g e h = go (badSizes t r o) (sym e ∙ h)
+  where
+    go : (a : Bool) → (a || not (eqb (length g) (length o))) ≡ false → a ≡ false
+    go true q = q
+    go false q = refl
+
+pub passed-all : {x : ℕ} (p : ℕ → Bool) (n : ℕ) → x ≡ first p n → n ≤ x → Passed p n
+passed-all p n e h = record { at = λ k l. first-passed p n .at k (omega arith) }
+
+pub ruleset refusing = (sizes-right, passed-all, chain)
+
+-- ---- the plan's pair of levels
+
+module _ {order goal : Order} {n : ℕ} (h : Arranged order n) (i : Arranged goal n) {b : Bool} (same : b ≡ same? (bytesOf order n) (bytesOf goal n)) (differ : b ≡ false) {k : ℕ} (planned : k ≡ bringUp (bytesOf order n) (bytesOf goal n)) where
+  pub plan-inside : k + 1 < n
+  plan-inside =
+      let a : Adjacent (bytesOf order n) (bytesOf goal n) (bringUp (bytesOf order n) (bytesOf goal n)) = arranged-adjacent h i (sym same ∙ differ) bring-up-lawful in
+      let l : bringUp (bytesOf order n) (bytesOf goal n) + 1 < length (bytesOf order n) = a .within in
+      rw planned (rw (arranged-length h) at l)
+
+  pub plan-low : k + 1 < ceiling
+  plan-low = omega (arith, plan-inside, h .few)
+
+  pub plan-inverse : (k + 1 < ceiling) × Inverse order
+  plan-inverse = (plan-low, arranged-inverse h)
+
+level-at : (order : Order) (n k : ℕ) {x : ℕ} → x ≡ getD (order .variables) k 0 → k < n → x ≡ getD (bytesOf order n) k 0
+level-at order n k e l = e ∙ sym (getD-take n (order .variables) k 0 l)
+
+-- ---- one planned swap
+
+module _ (t r : List ℕ) {order goal : Order} {n : ℕ} (h : Arranged order n) (i : Arranged goal n) {b : Bool} (same : b ≡ same? (bytesOf order n) (bytesOf goal n)) where
+  rests-there : b ≡ true → false ≡ over.goes (relay r) bringUp (bytesOf goal n) (stateOf t order n)
+  unfolding over.goes over.arrived relay
+  rests-there e = rw (sym same ∙ e)
+
+  pub step-arrived : b ≡ true → Stepped t r order goal n (record { moved = false; order = order }) t
+  step-arrived e = record { moves = rests-there e; to = λ f. true-false (sym f); stays = λ f. refl; arranged = h }
+
+  module _ (differ : b ≡ false) {k x y : ℕ} (planned : k ≡ bringUp (bytesOf order n) (bytesOf goal n)) (is-x : x ≡ getD (order .variables) k 0) (is-y : y ≡ getD (order .variables) (k + 1) 0) where
+    inside : k + 1 < n
+    inside = plan-inside h i same differ planned
+
+    x-here : x ≡ xAt (bytesOf order n) k
+    x-here = level-at order n k is-x (omega (arith, inside))
+
+    y-here : y ≡ yAt (bytesOf order n) k
+    y-here = level-at order n (k + 1) is-y inside
+
+    x-there : x ≡ xAt (bytesOf order n) (bringUp (bytesOf order n) (bytesOf goal n))
+    x-there = x-here ∙ ap (xAt (bytesOf order n)) planned
+
+    y-there : y ≡ yAt (bytesOf order n) (bringUp (bytesOf order n) (bytesOf goal n))
+    y-there = y-here ∙ ap (yAt (bytesOf order n)) planned
+
+    fits-now : over.goes (relay r) bringUp (bytesOf goal n) (stateOf t order n) ≡ fitsIn t r x y
+    unfolding over.goes over.arrived over.next relay
+    fits-now = rw (sym same ∙ differ, x-there, y-there)
+
+    stepped-now : over.stepped (relay r) bringUp (bytesOf goal n) (stateOf t order n) ≡ record { table = tableAfter t r x y; order = exchange (bytesOf order n) k }
+    unfolding over.next relay
+    stepped-now = rw (x-there, y-there, planned)
+
+    module _ {a : Room} {t′ : List ℕ} (out : RoomOutcome t r x y a t′) where
+      pub step-stuck : (m f : ℕ) → a ≡ room.NoRoom m f → Stepped t r order goal n (record { moved = false; order = order }) t′
+      step-stuck m f e =
+          let lack : fitsIn t r x y ≡ false = room-lacks t r x y (fitsIn t r x y) m f refl (sym e ∙ out .answer) in
+          record { moves = sym lack ∙ sym fits-now; to = λ g. true-false (sym g); stays = λ g. out .table ∙ ap (λ z. cond z (tableAfter t r x y) t) lack; arranged = h }
+
+      pub step-made : {q : Order} → a ≡ room.Made → q ≡ exchangedOrder order k → Stepped t r order goal n (record { moved = true; order = q }) t′
+      step-made {q} e w =
+          let fit : fitsIn t r x y ≡ true = room-fits t r x y (fitsIn t r x y) refl (sym e ∙ out .answer) in
+          let new : t′ ≡ tableAfter t r x y = out .table ∙ ap (λ z. cond z (tableAfter t r x y) t) fit in
+          record {
+            moves = sym fit ∙ sym fits-now;
+            to = λ g. ap (λ z. record { table = z; order = bytesOf q n }) new ∙ ap (λ z. record { table = tableAfter t r x y; order = z }) (ap (λ z. bytesOf z n) w ∙ exchanged-bytes h k inside) ∙ sym stepped-now;
+            stays = λ g. true-false g;
+            arranged = rw w (exchanged-arranged h k inside);
+          }
+
+    -- ---- the answer, judged on the state left
+    not-there : over.arrived (relay r) bringUp (bytesOf goal n) (stateOf t order n) ≡ false
+    unfolding over.arrived relay
+    not-there = sym same ∙ differ
+
+    module _ (swaps : ℕ) {l : ℕ} (counted : l ≡ left (bytesOf order n) (bytesOf goal n)) {a : Room} (out : a ≡ roomOf t r x y) where
+      pub judge-stuck : (m f : ℕ) → a ≡ room.NoRoom m f
+          → NoRoom swaps l k m f ≡ answerOf r swaps (left (bytesOf order n) (bytesOf goal n)) (stateOf t order n) (over.judge (relay r) bringUp (bytesOf goal n) (stateOf t order n))
+      unfolding answerOf over.judge over.arrived over.next relay
+      judge-stuck m f e =
+          let is : roomOf t r (xAt (bytesOf order n) k) (yAt (bytesOf order n) k) ≡ room.NoRoom m f = rw (x-here, y-here) at (sym out ∙ e) in
+          let lack : fitsIn t r (xAt (bytesOf order n) k) (yAt (bytesOf order n) k) ≡ false = room-lacks t r _ _ (fitsIn t r (xAt (bytesOf order n) k) (yAt (bytesOf order n) k)) m f refl (sym is) in
+          let w = no-room-only t r (xAt (bytesOf order n) k) (yAt (bytesOf order n) k) m f is in
+          rw (sym same ∙ differ, ← planned, lack, ← counted, w .1, w .2)
+
+      pub judge-paused : a ≡ room.Made
+          → Paused swaps l ≡ answerOf r swaps (left (bytesOf order n) (bytesOf goal n)) (stateOf t order n) (over.judge (relay r) bringUp (bytesOf goal n) (stateOf t order n))
+      unfolding answerOf over.judge over.arrived over.next relay
+      judge-paused e =
+          let fit : fitsIn t r x y ≡ true = room-fits t r x y (fitsIn t r x y) refl (sym e ∙ out) in
+          rw (sym same ∙ differ, ← x-there, ← y-there, fit, ← counted)
+
+  pub judge-done : (swaps : ℕ) {l : ℕ} → l ≡ left (bytesOf order n) (bytesOf goal n) → b ≡ true
+      → Done swaps l ≡ answerOf r swaps (left (bytesOf order n) (bytesOf goal n)) (stateOf t order n) (over.judge (relay r) bringUp (bytesOf goal n) (stateOf t order n))
+  unfolding answerOf over.judge over.arrived relay
+  judge-done swaps counted e = rw (sym same ∙ e, ← counted)
+
+-- ---- the loop
+
+pub same-sizes : (t t₀ : List ℕ) → length t ≡ length t₀ → (length t₀ ≤ recordSize * mostRecords) × (length t₀ % recordSize ≡ 0) → (length t ≤ recordSize * mostRecords) × (length t % recordSize ≡ 0)
+same-sizes t t₀ e p = rw e p
+
+module _ {t₀ r : List ℕ} (start : Order) {goal : Order} {n budget i : ℕ} {t : List ℕ} {order : Order} (so-far : over.Slicing (relay r) bringUp (bytesOf goal n) (stateOf t₀ start n) budget i (stateOf t order n)) where
+  pub drive-rests : {s : Turn} {t′ : List ℕ} → Stepped t r order goal n s t′ → not (s .moved) ≡ true → Arranged order n → Driven t₀ r start goal n budget (record { order = order; swaps = i }) t′
+  drive-rests {s} {t′} p e a =
+      let still : s .moved ≡ false = not-true (s .moved) e in
+      record {
+        sliced = rw (p .stays still) (slicing-rests (relay r) bringUp (bytesOf goal n) so-far (sym (p .moves) ∙ still));
+        arranged = a;
+        small = so-far .within;
+      }
+
+  pub drive-goes : {s : Turn} {t′ : List ℕ} → Stepped t r order goal n s t′ → not (s .moved) ≡ false → i < budget
+      → over.Slicing (relay r) bringUp (bytesOf goal n) (stateOf t₀ start n) budget (i + 1) (stateOf t′ (s .order) n)
+  drive-goes {s} p e l =
+      let gone : s .moved ≡ true = not-false (s .moved) e in
+      slicing-goes (relay r) bringUp (bytesOf goal n) so-far l (sym (p .moves) ∙ gone) (p .to gone)
+
+  pub drive-ends : budget ≤ i → Arranged order n → Driven t₀ r start goal n budget (record { order = order; swaps = i }) t
+  drive-ends l a = record { sliced = slicing-ends (relay r) bringUp (bytesOf goal n) so-far l; arranged = a; small = so-far .within }
+
+-- ---- the entry
+
+-- what passes the first three checks
+pub record Fit (t r o g : List ℕ) : Type 0 where
+  pub sizes : Sizes t r o
+  pub long : length g ≡ length o
+  pub order : Permutation o
+  pub target : Permutation g
+
+both-false : (a b : Bool) → (a || b) ≡ false → (a ≡ false) × (b ≡ false)
+both-false true b e = true-false e
+both-false false b e = (refl, e)
+
+fit : (t r o g : List ℕ) → AllPass (runStages t r o g) → Fit t r o g
+unfolding runStages badRunSizes
+fit t r o g (also h (also p (also q rest))) =
+    let b = both-false (badSizes t r o) (not (eqb (length g) (length o))) (passed-only 0 h) in
+    record { sizes = sizes-if t r o (b .0); long = eqb-true (length g) (length o) (not-false (eqb (length g) (length o)) (b .1)); order = permutation-if o p; target = permutation-if g q }
+
+-- a slice that was run is the definition's
+ran-is : (r g : List ℕ) (budget : ℕ) (s x : State) (swaps : ℕ) → swaps ≡ over.made (relay r) bringUp g budget s → x ≡ over.after (relay r) bringUp g budget s
+    → record { answer = answerOf r swaps (left (x .order) g) x (over.judge (relay r) bringUp g x); table = x .table; order = x .order } ≡ ranTo r (over.slice (relay r) bringUp g budget s)
+unfolding ranTo over.slice relay
+ran-is r g budget s x swaps e f = rw (e, f)
+
+module _ (t r o g : List ℕ) (budget : ℕ) {v : Verdict} (judged : v ≡ stages.judge (runStages t r o g)) where
+  run-by : {w : Verdict} → v ≡ w → runJudged t r o g budget w ≡ runOf t r o g budget
+  unfolding runOf
+  run-by e = ap (runJudged t r o g budget) (sym e ∙ judged)
+
+  pub run-refused : (k x : ℕ) → v ≡ verdict.Refused k x → record { answer = Refused k x; table = t; order = o } ≡ runOf t r o g budget
+  run-refused k x e = run-by e
+
+  module _ (clear : v ≡ verdict.Clear) where
+    pub run-fit : Fit t r o g
+    run-fit = fit t r o g (clear-only (runStages t r o g) (sym judged ∙ clear))
+
+    few : length g ≤ ceiling
+    few = omega (arith, run-fit .sizes .few-variables, run-fit .long)
+
+    pub target-loads : (length g ≤ ceiling) × Permutation g
+    target-loads = (few, run-fit .target)
+
+    pub order-loads : (length o ≤ ceiling) × Permutation o
+    order-loads = (run-fit .sizes .few-variables, run-fit .order)
+
+    pub order-few : length o ≤ ceiling
+    order-few = run-fit .sizes .few-variables
+
+    pub table-right : (length t ≤ recordSize * mostRecords) × (length t % recordSize ≡ 0)
+    table-right = (run-fit .sizes .few-records, run-fit .sizes .whole-records)
+
+    module _ {goal : Order} (goal-is : goal ≡ loadOrder g) where
+      pub goal-arranged : Arranged goal (length o)
+      goal-arranged = rw (goal-is, ← run-fit .long) (load-arranged g (run-fit .target) few)
+
+      goal-bytes : bytesOf goal (length o) ≡ g
+      goal-bytes = rw (goal-is, ← run-fit .long) (load-bytes g few)
+
+      module _ {start : Order} (start-is : start ≡ loadOrder o) where
+        pub start-arranged : Arranged start (length o)
+        start-arranged = rw start-is (load-arranged o (run-fit .order) (run-fit .sizes .few-variables))
+
+        start-bytes : bytesOf start (length o) ≡ o
+        start-bytes = rw start-is (load-bytes o (run-fit .sizes .few-variables))
+
+        pub run-ran : {end : Left} {t′ o′ : List ℕ} {a : Slice} → Driven t r start goal (length o) budget end t′ → o′ ≡ bytesOf (end .order) (length o)
+            → a ≡ answerOf r (end .swaps) (left (bytesOf (end .order) (length o)) (bytesOf goal (length o))) (stateOf t′ (end .order) (length o)) (over.judge (relay r) bringUp (bytesOf goal (length o)) (stateOf t′ (end .order) (length o)))
+            → record { answer = a; table = t′; order = o′ } ≡ runOf t r o g budget
+        run-ran {end} {t′} {o′} {a} d p q =
+            let n : ℕ = length o in
+            let made : end .swaps ≡ over.made (relay r) bringUp g budget (record { table = t; order = o }) = rw (goal-bytes, start-bytes) at (d .sliced .swaps-made) in
+            let left : stateOf t′ (end .order) n ≡ over.after (relay r) bringUp g budget (record { table = t; order = o }) = rw (goal-bytes, start-bytes) at (d .sliced .state-left) in
+            ap (λ z. record { answer = a; table = t′; order = z }) p
+            ∙ ap (λ z. record { answer = z; table = t′; order = bytesOf (end .order) n }) (rw goal-bytes at q)
+            ∙ ran-is r g budget (record { table = t; order = o }) (stateOf t′ (end .order) n) (end .swaps) made left
+            ∙ run-by clear

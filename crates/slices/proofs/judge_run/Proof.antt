@@ -1,0 +1,20 @@
+use native.Mathlib.Omega.{arith}
+use borrow.Author.Needs.{needs}
+use Rattle.slices.specs.Run.{runStages}
+use Rattle.slices.proofs.Laws.{sizes-right, passed-all, refusing}
+use Rattle.slices.proofs.judge_run.Statement.{statement}
+use Rattle.slices.proofs.judge_run.Tie as tie
+
+pub judge-run-spec : {M : Type 1} → statement M
+unfolding runStages
+judge-run-spec =
+    tie.close
+    (tie.spec
+    (λ c κs. search needs)
+    (λ c. search refusing depth 12)
+    (λ c κs. search needs)
+    (λ c. search refusing depth 12)
+    (λ c κs. search needs)
+    (λ c. search refusing depth 12)
+    (λ c κs. (sizes-right _ _ _ _ (c .before .before .before .before .before .bad-run-sizes .ensures) (c .before .before .before .before .if1 .left), passed-all _ _ (c .before .before .before .first-bad-place .ensures) (omega arith)))
+    (λ c. search refusing depth 12))

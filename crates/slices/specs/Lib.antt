@@ -1,0 +1,4 @@
+pub mod Slices
+pub mod Bench
+pub mod Run
+pub mod Theorems

@@ -1,0 +1,169 @@
+// Run one slice of planned swaps towards a target order.
+ghost use mathlib.Core.Path.{_≡_};
+ghost use Prim.Native.Nat.{_*_, _%_, _≤_, _<_};
+ghost use lib.ListN.{length};
+ghost use Rattle.orders.specs.Arranged.{Arranged, bytesOf};
+ghost use Rattle.orders.specs.Plans.{bringUp};
+ghost use Rattle.orders.specs.Inversions.{left};
+ghost use Rattle.diagrams.specs.Layout.{mostRecords, recordSize};
+ghost use Rattle.checks.specs.Stages as stages;
+ghost use Rattle.slices.specs.Slices as over;
+ghost use Rattle.slices.specs.Run.{badRunSizes, runStages, relay, answerOf, stateOf, Stepped, Driven, RunOutcome};
+use checks::Verdict;
+use orders::Order;
+use swaps::Room;
+
+pub enum Slice {
+    Done {
+        swaps: usize,
+        left: usize,
+    },
+    NoRoom {
+        swaps: usize,
+        left: usize,
+        level: usize,
+        needed: usize,
+        free: usize,
+    },
+    Paused {
+        swaps: usize,
+        left: usize,
+    },
+    Refused {
+        number: u8,
+        place: usize,
+    },
+}
+
+// Whether a planned swap was made, and the order then.
+pub struct Turn {
+    pub moved: bool,
+    pub order: Order,
+}
+
+// What a slice leaves: the order, and the swaps made of its budget.
+pub struct Left {
+    pub order: Order,
+    pub swaps: usize,
+}
+
+// ---- 1 to 9
+
+fn bad_run_sizes(table: &[u8], roots: &[u8], order: &[u8], target: &[u8]) -> bool
+    ensures { λ b. ⌜ b ≡ badRunSizes (now (table .entry)) (now (roots .entry)) (now (order .entry)) (now (target .entry)) ⌝ }
+{
+    checks::sizes::bad_sizes(table, roots, order) | !(target.len() == order.len())
+}
+
+fn judge_run(table: &[u8], roots: &[u8], order: &[u8], target: &[u8]) -> Verdict
+    ensures { λ v. ⌜ v ≡ stages.judge (runStages (now (table .entry)) (now (roots .entry)) (now (order .entry)) (now (target .entry))) ⌝ }
+{
+    if bad_run_sizes(table, roots, order, target) {
+        return Verdict::Refused {
+            number: 1,
+            place: 0,
+        };
+    }
+    let bad_order = orders::first_bad_place(order);
+    if bad_order < order.len() {
+        return Verdict::Refused {
+            number: 2,
+            place: bad_order,
+        };
+    }
+    let bad_target = orders::first_bad_place(target);
+    if bad_target < target.len() {
+        return Verdict::Refused {
+            number: 3,
+            place: bad_target,
+        };
+    }
+    checks::judge_table(table, roots, order)
+}
+
+// ---- one planned swap
+
+fn step(table: &mut [u8], roots: &[u8], order: Order, goal: Order, n: usize) -> Turn
+    requires { ⌜ ((length (now table) ≤ recordSize * mostRecords) × (length (now table) % recordSize ≡ 0)) × (Arranged order n × Arranged goal n) ⌝ }
+    ensures { λ s. ⌜ Stepped (now (table .entry)) (now (roots .entry)) order goal n s (now (table .exit)) ⌝ }
+{
+    if order.same(goal, n) {
+        return Turn {
+            moved: false,
+            order,
+        };
+    }
+    let level = order.bring_up(goal, n);
+    let x = order.variable_at(level);
+    let y = order.variable_at(level + 1);
+    match swaps::swap_table(table, roots, x, y) {
+        Room::NoRoom { needed: _, free: _ } => Turn {
+            moved: false,
+            order,
+        },
+        Room::Made => Turn {
+            moved: true,
+            order: order.exchanged(level),
+        },
+    }
+}
+
+// Planned swaps until none is to be made or the budget is spent.
+fn drive(table: &mut [u8], roots: &[u8], start: Order, goal: Order, n: usize, budget: usize) -> Left
+    requires { ⌜ ((length (now table) ≤ recordSize * mostRecords) × (length (now table) % recordSize ≡ 0)) × (Arranged start n × Arranged goal n) ⌝ }
+    ensures { λ l. ⌜ Driven (now (table .entry)) (now (roots .entry)) start goal n budget l (now (table .exit)) ⌝ }
+{
+    let mut order = start;
+    let mut swaps: usize = 0;
+    while swaps < budget {
+        let s = step(table, roots, order, goal, n);
+        if !s.moved {
+            return Left { order, swaps };
+        }
+        order = s.order;
+        swaps += 1;
+    }
+    Left { order, swaps }
+}
+
+// ---- the answer, judged on the state left
+
+fn judge(table: &[u8], roots: &[u8], order: Order, goal: Order, n: usize, swaps: usize) -> Slice
+    requires { ⌜ ((length (now table) ≤ recordSize * mostRecords) × (length (now table) % recordSize ≡ 0)) × (Arranged order n × Arranged goal n) ⌝ }
+    ensures { λ a. ⌜ a ≡ answerOf (now (roots .entry)) swaps (left (bytesOf order n) (bytesOf goal n)) (stateOf (now (table .entry)) order n) (over.judge (relay (now (roots .entry))) bringUp (bytesOf goal n) (stateOf (now (table .entry)) order n)) ⌝ }
+{
+    let left = order.left(goal, n);
+    if order.same(goal, n) {
+        return Slice::Done { swaps, left };
+    }
+    let level = order.bring_up(goal, n);
+    let x = order.variable_at(level);
+    let y = order.variable_at(level + 1);
+    match swaps::has_room(table, roots, x, y) {
+        Room::NoRoom { needed, free } => Slice::NoRoom {
+            swaps,
+            left,
+            level,
+            needed,
+            free,
+        },
+        Room::Made => Slice::Paused { swaps, left },
+    }
+}
+
+pub fn run(table: &mut [u8], roots: &[u8], order: &mut [u8], target: &[u8], budget: u32) -> Slice
+    ensures { λ a. ⌜ RunOutcome (now (table .entry)) (now (roots .entry)) (now (order .entry)) (now (target .entry)) budget a (now (table .exit)) (now (order .exit)) ⌝ }
+{
+    let verdict = judge_run(table, roots, order, target);
+    if let Verdict::Refused { number, place } = verdict {
+        return Slice::Refused { number, place };
+    }
+    let n = order.len();
+    let goal = Order::load(target);
+    let start = Order::load(order);
+    let left = drive(table, roots, start, goal, n, budget as usize);
+    let end = left.order;
+    let swaps = left.swaps;
+    end.store(order);
+    judge(table, roots, end, goal, n, swaps)
+}

@@ -1,0 +1,165 @@
+-- What the work area, the table and the entry hold at each way out, over plain variables.
+use Prim.Native.Nat.{ℕ, _+_, _-_, _*_, _/_, _%_, _≤_, _<_}
+use mathlib.Core.Bool.{Bool, true, false, cond}
+use mathlib.Core.List.{List, [], _∷_, _++_, append-nil}
+use mathlib.Core.Path.{_≡_, refl, ap, sym, _∙_, fun-ext}
+use native.Mathlib.Nat.{le-refl}
+use native.Mathlib.Omega.{arith}
+use borrow.Author.Tests.{le-leb, lt-leb, leb-true}
+use lib.Dec.{leb}
+use lib.ListN.{length, getD, set, take, drop, drop-of-length-le}
+use lib.Seq.{take-at}
+use Rattle.lists.specs.Copy.{copied, copied-first}
+use Rattle.lists.specs.Fold.{fold, Steps, steps-end}
+use Rattle.lists.specs.Keep.{which}
+use Rattle.lists.specs.Says.{true-false}
+use Rattle.lists.specs.Tabulate.{tabulate, length-tabulate, tabulate-agrees}
+use Rattle.orders.specs.Exchange.{exchange}
+use Rattle.diagrams.specs.Layout.{recordSize, mostRecords, records, rootCount, isFree}
+use Rattle.diagrams.specs.Node.{Node, at}
+use Rattle.diagrams.specs.Decode.{nodeAt, decode, eight, encode}
+use Rattle.diagrams.specs.Lookup.{rootsOf}
+use Rattle.diagrams.specs.Store.{storedAt, stores-encode, length-encode}
+use Rattle.checks.specs.Marks.{markedRoot, noMarks}
+use Rattle.checks.specs.Meaning.{Sizes, sizes-if}
+use Rattle.checks.specs.Stages.{judge, clear-only, row-refuses, row-passes, place-refuses, place-passes}
+use Rattle.checks.specs.Check.{checkStages}
+use Rattle.checks.specs.Usable.{passes-all}
+use Rattle.checks.specs.declared.Verdict.{Verdict}
+use Rattle.checks.specs.declared.Verdict.the-variants as verdict
+use Rattle.swaps.specs.Swap.{xAt, yAt, needed, freeCount, fits, after, swapped}
+use Rattle.swaps.specs.Reckoning.{News, standsAt, noteRecord, markedKept, keptMarks, passedBy, rewritten, imageAfter}
+use Rattle.swaps.specs.Reckoned.{Reckoned, needed-is, free-count-is, fits-is, rewritten-is}
+use Rattle.swaps.specs.Outcome.{room-fits, room-lacks, fitsIn, roomOf, tableAfter, Prepared, RoomOutcome, noLevel, swapStages, Swapped, swapAfter, swapJudged, swapOf}
+use Rattle.swaps.specs.declared.Room.{Room}
+use Rattle.swaps.specs.declared.Room.the-variants as room
+use Rattle.swaps.specs.declared.Swapping.the-variants.{Made, NoRoom, Refused}
+
+-- ---- the work area
+
+pub reckoned : (t : List ℕ) (x y : ℕ) (standing : List ℕ) (m : ℕ) (start : List ℕ) {p : News} (slots : List ℕ) (frees : ℕ) → records t ≤ mostRecords
+    → take m standing ≡ which (standsAt t x y) (records t) → m ≤ length standing → 4 * mostRecords ≤ length start
+    → p ≡ fold (noteRecord t x y standing m) (record { list = start; count = 0 }) (records t) → take frees slots ≡ which (isFree t) (records t) → frees ≤ length slots
+    → Reckoned t x y standing m p slots frees
+reckoned t x y standing m start slots frees few a b c d e f =
+    record { few = few; standing-is = a; standing-room = b; start = start; long = c; news-are = d; slots-are = e; slots-room = f }
+
+pub kept-all : (t r : List ℕ) (x y : ℕ) {l₀ l₁ l₂ : List ℕ} → l₀ ≡ noMarks → l₁ ≡ fold (markedRoot r) l₀ (rootCount r) → l₂ ≡ fold (markedKept t x y) l₁ (records t) → l₂ ≡ keptMarks t r x y
+unfolding keptMarks
+kept-all t r x y a b c = c ∙ ap (λ l. fold (markedKept t x y) l (records t)) (b ∙ ap (λ l. fold (markedRoot r) l (rootCount r)) a)
+
+module _ {t : List ℕ} {x y : ℕ} {standing : List ℕ} {m : ℕ} {p : News} {slots : List ℕ} {frees : ℕ} (R : Reckoned t x y standing m p slots frees) (r : List ℕ) where
+  no-fit : frees < p .count → fitsIn t r x y ≡ false
+  no-fit h = sym (fits-is R (rootsOf r)) ∙ lt-leb (p .count) frees h
+
+  fit : p .count ≤ frees → fitsIn t r x y ≡ true
+  fit h = sym (fits-is R (rootsOf r)) ∙ le-leb (p .count) frees h
+
+  answered-no : frees < p .count → room.NoRoom (p .count) frees ≡ roomOf t r x y
+  unfolding roomOf
+  answered-no h = rw (no-fit h, ← needed-is R (rootsOf r), ← free-count-is R (rootsOf r))
+
+  answered-yes : p .count ≤ frees → room.Made ≡ roomOf t r x y
+  unfolding roomOf
+  answered-yes h = rw (fit h)
+
+  pub prepared-none : (image : List ℕ) → frees < p .count → Prepared t r x y (room.NoRoom (p .count) frees) image
+  prepared-none image h = record { answer = answered-no h; table = λ e. true-false (sym e ∙ no-fit h) }
+
+  module _ (marks image : List ℕ) (marks-are : marks ≡ keptMarks t r x y) (h : p .count ≤ frees) (whole : length t % recordSize ≡ 0) where
+    nodes : ℕ → Node
+    nodes i = rewritten t x y standing m p slots frees marks (passedBy t i) i
+
+    stores : fold (imageAfter t x y standing m p slots frees marks) image (records t) ≡ fold (λ l i. storedAt l i (eight (nodes i))) image (records t)
+    unfolding imageAfter nodes
+    stores = ap (λ f. fold f image (records t)) (fun-ext (λ l. fun-ext (λ i. refl)))
+
+    fewer : needed (at (decode t)) (records t) x y (rootsOf r) ≤ freeCount (at (decode t)) (records t) x y (rootsOf r)
+    fewer = rw (← needed-is R (rootsOf r), ← free-count-is R (rootsOf r)) h
+
+    long-decode : length (decode t) ≡ records t
+    unfolding decode
+    long-decode = length-tabulate (records t) (nodeAt t)
+
+    swapped-nodes : tabulate (records t) nodes ≡ swapped (decode t) x y (rootsOf r)
+    unfolding swapped nodes passedBy
+    swapped-nodes =
+        tabulate-agrees (records t) _ _ (λ i b. rewritten-is R r marks marks-are fewer i b)
+        ∙ ap (λ n. tabulate n (after (at (decode t)) n x y (rootsOf r))) (sym long-decode)
+
+    long-encode : length (encode (tabulate (records t) nodes)) ≡ length t
+    long-encode = length-encode (records t) nodes ∙ omega arith
+
+    table-taken : {image′ : List ℕ} → image′ ≡ fold (imageAfter t x y standing m p slots frees marks) image (records t) → take (length t) image′ ≡ tableAfter t r x y
+    unfolding tableAfter
+    table-taken e =
+        ap (take (length t)) (e ∙ stores ∙ stores-encode image nodes (records t))
+        ∙ take-at (encode (tabulate (records t) nodes)) (drop (recordSize * records t) image) (length t) long-encode
+        ∙ ap encode swapped-nodes
+
+    pub prepared-made : {image′ : List ℕ} → image′ ≡ fold (imageAfter t x y standing m p slots frees marks) image (records t) → Prepared t r x y room.Made image′
+    prepared-made e = record { answer = answered-yes h; table = λ f. table-taken e }
+
+-- ---- the table
+
+pub published : (table image : List ℕ) {i : ℕ} {l : List ℕ} → Steps (copied image) table (length table) i l → length table ≤ i → length table ≤ length image → l ≡ take (length table) image
+published table image s e h =
+    steps-end s e ∙ copied-first image table (length table) h (omega arith)
+    ∙ ap (λ d. take (length table) image ++ d) (drop-of-length-le table {i = length table} (le-refl (length table))) ∙ append-nil (take (length table) image)
+
+module _ (t r : List ℕ) (x y : ℕ) where
+  pub room-none : {a : Room} {image : List ℕ} (n f : ℕ) → Prepared t r x y a image → a ≡ room.NoRoom n f → RoomOutcome t r x y (room.NoRoom n f) t
+  room-none n f p e =
+      let q : room.NoRoom n f ≡ roomOf t r x y = sym e ∙ p .answer in
+      record { answer = q; table = rw (room-lacks t r x y (fitsIn t r x y) n f refl q) }
+
+  pub room-made : {a : Room} {image t′ : List ℕ} → Prepared t r x y a image → a ≡ room.Made → t′ ≡ take (length t) image → RoomOutcome t r x y room.Made t′
+  room-made p e w =
+      let q : room.Made ≡ roomOf t r x y = sym e ∙ p .answer in
+      let f : fitsIn t r x y ≡ true = room-fits t r x y (fitsIn t r x y) refl q in
+      record { answer = q; table = rw f (w ∙ p .table f) }
+
+-- ---- the entry
+
+module _ (t r o : List ℕ) (k : ℕ) {v : Verdict} (judged : v ≡ judge (checkStages t r o)) where
+  swap-by : {w : Verdict} → w ≡ judge (swapStages t r o k) → swapJudged t r o k w ≡ swapOf t r o k
+  unfolding swapOf
+  swap-by e = ap (swapJudged t r o k) e
+
+  pub swap-refused : (n x : ℕ) → v ≡ verdict.Refused n x → record { answer = Refused n x; table = t; order = o } ≡ swapOf t r o k
+  unfolding swapStages
+  swap-refused n x h = swap-by (row-refuses (checkStages t r o) _ n x judged h)
+
+  module _ (clear : v ≡ verdict.Clear) where
+    sizes : Sizes t r o
+    sizes = sizes-if t r o (passes-all t r o (clear-only (checkStages t r o) (sym judged ∙ clear)) .c1)
+
+    pub some-level : 1 ≤ length o
+    some-level = sizes .some-variables
+
+    pub table-fits : (length t ≤ recordSize * mostRecords) × (length t % recordSize ≡ 0)
+    table-fits = (sizes .few-records, sizes .whole-records)
+
+    pub swap-nowhere : length o - 1 ≤ k → record { answer = Refused 12 k; table = t; order = o } ≡ swapOf t r o k
+    unfolding swapStages
+    swap-nowhere h = swap-by (row-passes (checkStages t r o) _ judged clear (place-refuses 12 k (noLevel o k) true verdict.Clear (sym (le-leb (length o - 1) k h)) refl))
+
+    module _ (h : k < length o - 1) {x y : ℕ} (is-x : x ≡ getD o k 0) (is-y : y ≡ getD o (k + 1) 0) {a : Room} {t′ : List ℕ} (out : RoomOutcome t r x y a t′) where
+      clear-all : verdict.Clear ≡ judge (swapStages t r o k)
+      unfolding swapStages
+      clear-all = row-passes (checkStages t r o) _ judged clear (place-passes 12 k (noLevel o k) false verdict.Clear verdict.Clear (sym (lt-leb (length o - 1) k h)) refl refl)
+
+      answered : a ≡ roomOf t r (xAt o k) (yAt o k)
+      answered = rw (← is-x, ← is-y) (out .answer)
+
+      pub swap-none : (n f : ℕ) → a ≡ room.NoRoom n f → record { answer = NoRoom k n f; table = t′; order = o } ≡ swapOf t r o k
+      swap-none n f e =
+          let same : t′ ≡ t = out .table ∙ ap (λ b. cond b (tableAfter t r x y) t) (room-lacks t r x y (fitsIn t r x y) n f refl (sym e ∙ out .answer)) in
+          ap (λ z. record { answer = NoRoom k n f; table = z; order = o }) same ∙ ap (swapAfter t r o k) (sym e ∙ answered) ∙ swap-by clear-all
+
+      pub swap-made : {u l : ℕ} → u ≡ getD o k 0 → l ≡ getD o (k + 1) 0 → a ≡ room.Made → record { answer = Made; table = t′; order = set (set o k l) (k + 1) u } ≡ swapOf t r o k
+      unfolding exchange
+      swap-made {u} {l} p q e =
+          let new : t′ ≡ tableAfter t r x y = out .table ∙ ap (λ b. cond b (tableAfter t r x y) t) (room-fits t r x y (fitsIn t r x y) refl (sym e ∙ out .answer)) in
+          ap (λ z. record { answer = Made; table = z; order = set (set o k l) (k + 1) u }) new
+          ∙ rw (is-x, is-y, p, q) (ap (swapAfter t r o k) (sym e ∙ answered) ∙ swap-by clear-all)

@@ -1,0 +1,271 @@
+-- One swap of a stored table, over its bytes: it passes every check again, under the exchanged order, and every root keeps its value; when there is room; when Swap refuses.
+use Prim.Native.Nat.{ℕ, _+_, _*_, _%_, _≤_, _<_}
+use native.Mathlib.Omega.{arith}
+use mathlib.Core.Bool.{Bool, true, false, cond, not}
+use mathlib.Core.List.{List}
+use mathlib.Core.Logic.{inl, inr}
+use mathlib.Core.Path.{_≡_, refl, ap, sym, _∙_}
+use lib.ListN.{length, getD, take, drop, List·getD-eq-default}
+use borrow.Author.Tests.{leb-true, leb-false, le-leb}
+use Rattle.lists.specs.Says.{either-side, denies, says-leb}
+use Rattle.lists.specs.Total.{count-agrees}
+use Rattle.lists.specs.Tabulate.{length-tabulate, getD-tabulate}
+use Rattle.orders.specs.Permutation.{Permutation, levelOf, inside-level}
+use Rattle.orders.specs.Exchange.{exchange, length-exchange, exchange-permutation}
+use Rattle.diagrams.specs.Layout.{recordSize, mostRecords, records, rootCount, variableAt, lowAt, highAt, isFree, isUsed, rootAt}
+use Rattle.diagrams.specs.Node.{Node, free, node, Constant, at, ref, look}
+use Rattle.diagrams.specs.Decode.{nodeAt, decode, eight, WellLaid, encode-decode}
+use Rattle.diagrams.specs.Encode.{Small, AllSmall, length-encode-list, decode-encode, encode-laid, encode-bytes, take-record}
+use Rattle.diagrams.specs.Lookup.{rootsOf, lookup, length-roots, root-is}
+use Rattle.diagrams.specs.Bryant.{Vertex}
+use Rattle.diagrams.specs.Levels.{free-node}
+use Rattle.diagrams.specs.Diagram.{Diagram}
+use Rattle.diagrams.specs.Reduced.{diagram-of, look-plain}
+use Rattle.diagrams.specs.Value.{value}
+use Rattle.checks.specs.Stages.{FailsFirst, judge, refused-if, refused-only}
+use Rattle.checks.specs.Check.{used, checkOf}
+use Rattle.checks.specs.Usable.{Usable}
+use Rattle.checks.specs.Theorems.{accepts}
+use Rattle.checks.specs.declared.Verdict.{Verdict}
+use Rattle.checks.specs.declared.Verdict.the-variants as verdict
+use Rattle.checks.specs.declared.Answer.the-variants.{Accepted}
+use Rattle.swaps.specs.Record.{isUsedNode, isFreeNode, Behind, behind}
+use Rattle.swaps.specs.Swap.{xAt, yAt, crosses, dies, needed, freeCount, fits, filled, dying, usedCount, swapped}
+use Rattle.swaps.specs.Stored.{length-swapped}
+use Rattle.swaps.specs.Theorem.{Cofactors, swap-diagram, swap-bryant, swap-root, swap-else, swap-count, cofactors}
+use Rattle.swaps.specs.Outcome.{fitsIn, roomOf, tableAfter, swapStages, Swapped, swapAfter, swapJudged, swapOf, SwapOutcome}
+use Rattle.swaps.specs.declared.Room.{Room}
+use Rattle.swaps.specs.declared.Room.the-variants as room
+use Rattle.swaps.specs.declared.Swapping.{Swapping}
+use Rattle.swaps.specs.declared.Swapping.the-variants.{Refused}
+
+-- ---- as many records as before
+
+pub length-decode : (t : List ℕ) → length (decode t) ≡ records t
+unfolding decode
+length-decode t = length-tabulate (records t) (nodeAt t)
+
+module _ (t r : List ℕ) (x y : ℕ) where
+  bytes-of : length (tableAfter t r x y) ≡ recordSize * records t
+  unfolding tableAfter
+  bytes-of = length-encode-list (swapped (decode t) x y (rootsOf r)) ∙ ap (λ n. recordSize * n) (length-swapped (decode t) x y (rootsOf r) ∙ length-decode t)
+
+  pub records-after : records (tableAfter t r x y) ≡ records t
+  records-after = omega (arith, bytes-of)
+
+  pub length-after : length t % recordSize ≡ 0 → length (tableAfter t r x y) ≡ length t
+  length-after whole = omega (arith, bytes-of)
+
+-- ---- the used records, counted in the bytes and in the records
+
+used-at : (t : List ℕ) (i : ℕ) → i < records t → isUsed t i ≡ isUsedNode (at (decode t) i)
+unfolding decode nodeAt isFreeNode
+used-at t i b = go (isFree t i) ∙ ap isUsedNode (sym (getD-tabulate (records t) (nodeAt t) i free b))
+  where
+    go : (f : Bool) → not f ≡ isUsedNode (cond f free (node (variableAt t i) (lowAt t i) (highAt t i)))
+    go true = refl
+    go false = refl
+
+pub used-is : (t : List ℕ) → used t ≡ usedCount (at (decode t)) (records t)
+unfolding usedCount
+used-is t = count-agrees (λ i. isUsedNode (at (decode t) i)) (isUsed t) (records t) (used-at t)
+
+-- ---- a fitting swap of a table that is accepted
+
+module _ (t r o : List ℕ) (k : ℕ) (usable : Usable t r o) (level : k + 1 < length o) (fit : fitsIn t r (xAt o k) (yAt o k) ≡ true) where
+  abbrev x : ℕ
+  x = xAt o k
+
+  abbrev y : ℕ
+  y = yAt o k
+
+  -- the records afterwards, and their bytes
+  abbrev S : List Node
+  S = swapped (decode t) x y (rootsOf r)
+
+  abbrev t′ : List ℕ
+  t′ = tableAfter t r x y
+
+  fit-decoded : fits (at (decode t)) (length (decode t)) x y (rootsOf r) ≡ true
+  fit-decoded = rw (length-decode t) fit
+
+  before : Diagram Constant (lookup t) (rootsOf r) (levelOf o) (length o)
+  before = diagram-of (look-plain (at (decode t))) (usable .bryant)
+
+  again : Diagram Constant (look (at S)) (rootsOf r) (levelOf (exchange o k)) (length (exchange o k))
+  again = swap-diagram (decode t) (rootsOf r) o k (usable .order) level fit-decoded before
+
+  exchanged : Permutation (exchange o k)
+  exchanged = exchange-permutation o k (usable .order) level
+
+  -- ---- every record fits its bytes
+
+  below-most : (i : ℕ) {v l h : ℕ} → at S i ≡ node v l h → i < mostRecords
+  below-most i e =
+      either-side i (length S)
+      (λ b. omega (arith, length-swapped (decode t) x y (rootsOf r), length-decode t, usable .sizes .few-records))
+      (λ b. free-node (List·getD-eq-default S free b) e)
+
+  reference-small : (c : ℕ) → Vertex Constant (look (at S)) c → c < 65536
+  reference-small c (inl b) = omega arith
+  reference-small c (inr u) = let m : Behind (at S) c (node (u .variable) (u .low) (u .high)) = behind (at S) c (u .is) in omega (arith, m .is, below-most (m .number) (m .holds))
+
+  variable-small : (q : ℕ) {v l h : ℕ} → look (at S) q ≡ node v l h → v < 255
+  variable-small q {v} e = omega (arith, inside-level (exchange o k) v exchanged (again .graph .indexed q e), length-exchange o k, usable .sizes .few-variables)
+
+  named : (i : ℕ) {v l h : ℕ} → at S i ≡ node v l h → look (at S) (ref i) ≡ node v l h
+  unfolding look
+  named i e = e
+
+  pub swapped-small : AllSmall S
+  swapped-small i b = go (at S i) refl
+    where
+      go : (m : Node) → at S i ≡ m → Small m
+      go free e = tt
+      go (node v l h) e = let f : look (at S) (ref i) ≡ node v l h = named i e in (variable-small (ref i) f, reference-small l (again .graph .closed (ref i) f false), reference-small h (again .graph .closed (ref i) f true))
+
+  -- ---- the table afterwards
+
+  pub decode-after : decode t′ ≡ S
+  unfolding tableAfter
+  decode-after = decode-encode S swapped-small
+
+  pub bytes-after : (j : ℕ) → getD t′ j 0 < 256
+  unfolding tableAfter
+  bytes-after j = encode-bytes S swapped-small j
+
+  laid-after : WellLaid t′
+  unfolding tableAfter
+  laid-after = encode-laid S swapped-small
+
+  -- a fitting swap of an accepted table gives an accepted table under the exchanged order
+  pub swap-usable : Usable t′ r (exchange o k)
+  swap-usable = record {
+    sizes = record {
+      some-variables = rw (length-exchange o k) (usable .sizes .some-variables);
+      few-variables = rw (length-exchange o k) (usable .sizes .few-variables);
+      whole-records = rw same (usable .sizes .whole-records);
+      few-records = rw same (usable .sizes .few-records);
+      whole-roots = usable .sizes .whole-roots;
+      few-roots = usable .sizes .few-roots;
+    };
+    order = exchanged;
+    laid = laid-after;
+    bryant = rw decode-after (swap-bryant (decode t) (rootsOf r) o k (usable .order) level fit-decoded (usable .bryant));
+  }
+    where
+      same : length t′ ≡ length t
+      same = length-after t r x y (usable .sizes .whole-records)
+
+  pub swap-accepted : checkOf t′ r (exchange o k) ≡ Accepted (used t′)
+  swap-accepted = accepts t′ r (exchange o k) swap-usable
+
+  -- every root keeps its reference, and its value for every combination
+  pub swap-root-value : (inputs : ℕ → Bool) (position : ℕ) → position < rootCount r
+      → value (lookup t′) inputs (length o) (rootAt r position) ≡ value (lookup t) inputs (length o) (rootAt r position)
+  swap-root-value inputs position b =
+      let e : value (look (at S)) inputs (length o) (getD (rootsOf r) position 0) ≡ value (lookup t) inputs (length o) (getD (rootsOf r) position 0) =
+      swap-root (decode t) (rootsOf r) o k (usable .order) level fit-decoded before inputs position (rw (length-roots r) b) in
+      rw decode-after (rw (root-is r position b) at e)
+
+  -- the function of a crossing record, and those of its new children
+  pub swap-cofactors : (q : ℕ) → crosses (lookup t) x y q ≡ true → Cofactors (lookup t) (lookup t′) (length o) x y q
+  swap-cofactors q c = rw decode-after (cofactors (decode t) (rootsOf r) o k (usable .order) level fit-decoded before q c)
+
+  -- the used records are those before, plus new, less dying
+  pub swap-used : used t′ + dying (at (decode t)) (records t) x y (rootsOf r) ≡ used t + needed (at (decode t)) (records t) x y (rootsOf r)
+  swap-used =
+      let e : usedCount (at S) (records t) + dying (at (decode t)) (records t) x y (rootsOf r) ≡ usedCount (at (decode t)) (records t) + needed (at (decode t)) (records t) x y (rootsOf r) =
+      rw (length-decode t) at (swap-count (decode t) (rootsOf r) o k (usable .order) level fit-decoded) in
+      let u : used t′ ≡ usedCount (at S) (records t) = used-is t′ ∙ rw (decode-after, records-after t r x y) in
+      rw (u, used-is t) e
+
+  -- "Nothing else changes.": a record that does not cross, that no new one goes to and that does not die keeps its eight bytes
+  pub kept-bytes : ((j : ℕ) → getD t j 0 < 256) → (i : ℕ) → i < records t → crosses (lookup t) x y (ref i) ≡ false
+      → filled (at (decode t)) (records t) x y (rootsOf r) i ≡ false → dies (at (decode t)) (records t) x y (rootsOf r) (ref i) ≡ false
+      → take recordSize (drop (recordSize * i) t′) ≡ take recordSize (drop (recordSize * i) t)
+  unfolding tableAfter
+  kept-bytes bytes i b c g d =
+      let b₀ : i < length (decode t) = rw (length-decode t) b in
+      let b₁ : i < length S = rw (length-swapped (decode t) x y (rootsOf r)) b₀ in
+      let e : at S i ≡ at (decode t) i = swap-else (decode t) (rootsOf r) o k (usable .order) level fit-decoded i c (rw (length-decode t) g) (rw (length-decode t) d) in
+      take-record S i b₁ ∙ ap eight e ∙ sym (take-record (decode t) i b₀) ∙ ap (λ s. take recordSize (drop (recordSize * i) s)) (encode-decode t bytes (usable .laid))
+
+-- ---- room
+
+module _ (t r : List ℕ) (x y : ℕ) where
+  abbrev Needed : ℕ
+  Needed = needed (at (decode t)) (records t) x y (rootsOf r)
+
+  abbrev Free : ℕ
+  Free = freeCount (at (decode t)) (records t) x y (rootsOf r)
+
+  fits-if : Needed ≤ Free → fitsIn t r x y ≡ true
+  unfolding fits
+  fits-if h = le-leb Needed Free h
+
+  fits-then : fitsIn t r x y ≡ true → Needed ≤ Free
+  unfolding fits
+  fits-then e = leb-true Needed Free e
+
+  unfit : Free < Needed → fitsIn t r x y ≡ false
+  unfolding fits
+  unfit h = denies (says-leb Needed Free) (λ e. omega arith)
+
+  unfit-then : fitsIn t r x y ≡ false → Free < Needed
+  unfolding fits
+  unfit-then e = leb-false Needed Free e
+
+  pub room-made : Needed ≤ Free → roomOf t r x y ≡ room.Made
+  unfolding roomOf
+  room-made h = rw (fits-if h)
+
+  pub no-room : Free < Needed → roomOf t r x y ≡ room.NoRoom Needed Free
+  unfolding roomOf
+  no-room h = rw (unfit h)
+
+  pub room-made-only : roomOf t r x y ≡ room.Made → Needed ≤ Free
+  unfolding roomOf
+  room-made-only e = go (fitsIn t r x y) refl e
+    where
+      go : (b : Bool) → fitsIn t r x y ≡ b → cond b room.Made (room.NoRoom Needed Free) ≡ room.Made → Needed ≤ Free
+      go true f e = fits-then f
+      go false f e = let z : _≡_ {A = ℕ} 0 1 = cc in absurd (omega arith)
+
+  pub no-room-only : (n f : ℕ) → roomOf t r x y ≡ room.NoRoom n f → (Free < Needed) × (n ≡ Needed) × (f ≡ Free)
+  unfolding roomOf
+  no-room-only n f e = go (fitsIn t r x y) refl e
+    where
+      go : (b : Bool) → fitsIn t r x y ≡ b → cond b room.Made (room.NoRoom Needed Free) ≡ room.NoRoom n f → (Free < Needed) × (n ≡ Needed) × (f ≡ Free)
+      go true g e = let z : _≡_ {A = ℕ} 0 1 = cc in absurd (omega arith)
+      go false g e = (unfit-then g, (cc), (cc))
+
+  pub made-exactly : (Needed ≤ Free → roomOf t r x y ≡ room.Made) × (roomOf t r x y ≡ room.Made → Needed ≤ Free)
+  made-exactly = (room-made, room-made-only)
+
+  -- "No room is given exactly when needed is above free.", with these two
+  pub no-room-exactly : (n f : ℕ) → ((Free < Needed) × (n ≡ Needed) × (f ≡ Free) → roomOf t r x y ≡ room.NoRoom n f) × (roomOf t r x y ≡ room.NoRoom n f → (Free < Needed) × (n ≡ Needed) × (f ≡ Free))
+  no-room-exactly n f = (λ w. rw (w .1, w .2) (no-room (w .0)), no-room-only n f)
+
+-- ---- the entry
+
+-- one outcome for each input
+pub swap-one : (t r o : List ℕ) (k : ℕ) {a b : Swapping} {t₁ t₂ o₁ o₂ : List ℕ} → SwapOutcome t r o k a t₁ o₁ → SwapOutcome t r o k b t₂ o₂ → (a ≡ b) × (t₁ ≡ t₂) × (o₁ ≡ o₂)
+swap-one t r o k p q = (ap (λ (s : Swapped). s .answer) (p ∙ sym q), ap (λ (s : Swapped). s .table) (p ∙ sym q), ap (λ (s : Swapped). s .order) (p ∙ sym q))
+
+-- Swap refuses with n at p exactly where check n fails at p, at no place before it, and every earlier check passes everywhere; it changes nothing then
+pub swap-refuses : (t r o : List ℕ) (k n p : ℕ) → FailsFirst (swapStages t r o k) n p → swapOf t r o k ≡ record { answer = Refused n p; table = t; order = o }
+unfolding swapOf
+swap-refuses t r o k n p f = ap (swapJudged t r o k) (refused-if (swapStages t r o k) n p f)
+
+pub swap-refuses-only : (t r o : List ℕ) (k n p : ℕ) → swapOf t r o k .answer ≡ Refused n p → FailsFirst (swapStages t r o k) n p
+unfolding swapOf
+swap-refuses-only t r o k n p e = refused-only (swapStages t r o k) n p (go (judge (swapStages t r o k)) e)
+  where
+    room-answers : (a : Room) → swapAfter t r o k a .answer ≡ Refused n p → verdict.Clear ≡ verdict.Refused n p
+    room-answers room.Made e = let z : _≡_ {A = ℕ} 0 1 = cc in absurd (omega arith)
+    room-answers (room.NoRoom a b) e = let z : _≡_ {A = ℕ} 0 1 = cc in absurd (omega arith)
+
+    go : (v : Verdict) → swapJudged t r o k v .answer ≡ Refused n p → v ≡ verdict.Refused n p
+    go verdict.Clear e = room-answers (roomOf t r (xAt o k) (yAt o k)) e
+    go (verdict.Refused j q) e = let a : j ≡ n = cc in let b : q ≡ p = cc in rw (a, b)

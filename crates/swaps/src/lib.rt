@@ -1,0 +1,149 @@
+// Swap two neighbouring levels of a stored diagram. The reckoning reads the table and prepares the table afterwards in a work area;
+// the lent buffers are written only when everything is known.
+ghost use mathlib.Core.Path.{_≡_};
+ghost use Prim.Native.Nat.{_*_, _%_, _≤_, _<_};
+ghost use lib.ListN.{length, take};
+ghost use Rattle.lists.specs.Keep.{which};
+ghost use Rattle.diagrams.specs.Layout.{mostRecords, recordSize, records, isFree};
+ghost use Rattle.swaps.specs.Outcome.{roomOf, tableAfter, Prepared, RoomOutcome, SwapOutcome};
+
+mod collect;
+mod kinds;
+mod marks;
+mod news;
+mod rewrite;
+
+use checks::Verdict;
+use diagrams::MOST_RECORDS;
+use diagrams::RECORD_SIZE;
+use diagrams::Variable;
+use rewrite::Numbers;
+
+// Was there room for a swap?
+pub enum Room {
+    Made,
+    NoRoom { needed: usize, free: usize },
+}
+
+pub enum Swapping {
+    Made,
+    NoRoom {
+        level: usize,
+        needed: usize,
+        free: usize,
+    },
+    Refused {
+        number: u8,
+        place: usize,
+    },
+}
+
+// ---- the work area
+
+fn no_numbers() -> [u16; MOST_RECORDS] {
+    [0u16; MOST_RECORDS]
+}
+
+fn no_news() -> [u16; 4 * MOST_RECORDS] {
+    [0u16; 4 * MOST_RECORDS]
+}
+
+fn no_image() -> [u8; RECORD_SIZE * MOST_RECORDS] {
+    [0u8; RECORD_SIZE * MOST_RECORDS]
+}
+
+// The table after the swap of x and y goes to the image, where there is room.
+fn prepare(table: &[u8], roots: &[u8], x: Variable, y: Variable, image: &mut [u8]) -> Room
+    requires { ⌜ ((records (now table) ≤ mostRecords) × (length (now table) % recordSize ≡ 0)) × ((length (now table) ≤ length (now image)) × ((x .0 < 256) × (y .0 < 256))) ⌝ }
+    ensures { λ a. ⌜ Prepared (now (table .entry)) (now (roots .entry)) (x .0) (y .0) a (now (image .exit)) ⌝ }
+{
+    let mut standing = no_numbers();
+    let mut slots = no_numbers();
+    let mut news = no_news();
+    let count = collect::collect_standing(table, x, y, &mut standing);
+    let free = collect::collect_free(table, &mut slots);
+    let needed = news::reckon(table, x, y, &standing, count, &mut news);
+    if free < needed {
+        return Room::NoRoom { needed, free };
+    }
+    let mut marks = checks::names::no_marks();
+    checks::names::mark_roots(&mut marks, roots);
+    marks::mark_all_kept(&mut marks, table, x, y);
+    let q = Numbers {
+        x,
+        y,
+        standing: count,
+        needed,
+        free,
+    };
+    rewrite::rewrite(table, &standing, &news, &slots, &marks, q, image);
+    Room::Made
+}
+
+// Is there room for the swap of x and y in an accepted table? Nothing is written.
+pub fn has_room(table: &[u8], roots: &[u8], x: Variable, y: Variable) -> Room
+    requires { ⌜ ((length (now table) ≤ recordSize * mostRecords) × (length (now table) % recordSize ≡ 0)) × ((x .0 < 256) × (y .0 < 256)) ⌝ }
+    ensures { λ a. ⌜ a ≡ roomOf (now (table .entry)) (now (roots .entry)) (x .0) (y .0) ⌝ }
+{
+    let mut image = no_image();
+    prepare(table, roots, x, y, &mut image)
+}
+
+// The one writer of a lent table: it knows nothing of diagrams.
+fn publish(table: &mut [u8], image: &[u8])
+    requires { ⌜ length (now table) ≤ length (now image) ⌝ }
+    ensures { λ _. ⌜ now (table .exit) ≡ take (length (now (table .entry))) (now (image .entry)) ⌝ }
+{
+    let m = table.len();
+    let mut i = 0;
+    while i < m {
+        table[i] = image[i];
+        i += 1;
+    }
+}
+
+// The swap of x and y in an accepted table.
+pub fn swap_table(table: &mut [u8], roots: &[u8], x: Variable, y: Variable) -> Room
+    requires { ⌜ ((length (now table) ≤ recordSize * mostRecords) × (length (now table) % recordSize ≡ 0)) × ((x .0 < 256) × (y .0 < 256)) ⌝ }
+    ensures { λ a. ⌜ RoomOutcome (now (table .entry)) (now (roots .entry)) (x .0) (y .0) a (now (table .exit)) ⌝ }
+{
+    let mut image = no_image();
+    match prepare(table, roots, x, y, &mut image) {
+        Room::NoRoom { needed, free } => Room::NoRoom { needed, free },
+        Room::Made => {
+            publish(table, &image);
+            Room::Made
+        }
+    }
+}
+
+pub fn swap(table: &mut [u8], roots: &[u8], order: &mut [u8], level: usize) -> Swapping
+    ensures { λ a. ⌜ SwapOutcome (now (table .entry)) (now (roots .entry)) (now (order .entry)) level a (now (table .exit)) (now (order .exit)) ⌝ }
+{
+    let verdict = checks::judge_all(table, roots, order);
+    if let Verdict::Refused { number, place } = verdict {
+        return Swapping::Refused { number, place };
+    }
+    if order.len() - 1 <= level {
+        return Swapping::Refused {
+            number: 12,
+            place: level,
+        };
+    }
+    let upper = order[level];
+    let lower = order[level + 1];
+    let x = Variable(diagrams::wide(upper));
+    let y = Variable(diagrams::wide(lower));
+    match swap_table(table, roots, x, y) {
+        Room::NoRoom { needed, free } => Swapping::NoRoom {
+            level,
+            needed,
+            free,
+        },
+        Room::Made => {
+            order[level] = lower;
+            order[level + 1] = upper;
+            Swapping::Made
+        }
+    }
+}

@@ -1,0 +1,102 @@
+//! Cases made by hand: what they are made of, and the library held to them.
+
+use crate::hold::{hold_library_to, Expected, LIST};
+use crate::input::Input;
+use crate::model::{Answer, Question};
+use crate::{bench, edges};
+
+/// A question, and the answer and the buffers afterwards as the rules say.
+pub struct Case {
+    pub name: &'static str,
+    pub input: Input,
+    pub question: Question,
+    pub expected: Expected,
+}
+
+impl Case {
+    /// A case that leaves every buffer as it was.
+    pub fn unchanged(name: &'static str, input: Input, question: Question, answer: Answer) -> Case {
+        let after = input.clone();
+        Case::changed(name, input, question, answer, after)
+    }
+
+    pub fn changed(
+        name: &'static str,
+        input: Input,
+        question: Question,
+        answer: Answer,
+        after: Input,
+    ) -> Case {
+        Case {
+            name,
+            input,
+            question,
+            expected: Expected { answer, after },
+        }
+    }
+}
+
+pub fn cases() -> Vec<Case> {
+    edges::cases().into_iter().chain(bench::cases()).collect()
+}
+
+/// Holds the library to every case whose question is wanted, each asked with
+/// answer lists of all lengths; how many there are, or the first report.
+pub fn hold_library_to_cases(wanted: fn(&Question) -> bool) -> Result<usize, String> {
+    let mut cases = cases();
+    cases.retain(|case| wanted(&case.question));
+    for case in &cases {
+        for entries in 0..=LIST {
+            hold_library_to(&case.expected, &case.input, &case.question, entries)
+                .map_err(|report| format!("made by hand: {}\n{report}", case.name))?;
+        }
+    }
+    Ok(cases.len())
+}
+
+pub type Bytes = [u8; 8];
+
+pub const FREE: Bytes = [255, 0, 0, 0, 0, 0, 0, 0];
+/// Record 0 of case A, written out: 1 (0,1).
+pub const A_0: Bytes = [1, 0, 0, 0, 1, 0, 0, 0];
+/// Record 1 of case A, written out: 0 (0,2).
+pub const A_1: Bytes = [0, 0, 0, 0, 2, 0, 0, 0];
+
+/// variable (low, high)
+pub fn used(variable: u8, low: u16, high: u16) -> Bytes {
+    let (low_0, low_1) = ((low % 256) as u8, (low / 256) as u8);
+    let (high_0, high_1) = ((high % 256) as u8, (high / 256) as u8);
+    [variable, 0, low_0, low_1, high_0, high_1, 0, 0]
+}
+
+/// The record with one byte exchanged for another.
+pub fn with(mut record: Bytes, position: usize, byte: u8) -> Bytes {
+    record[position] = byte;
+    record
+}
+
+pub fn input(table: &[Bytes], roots: &[u16], order: &[u8]) -> Input {
+    Input {
+        table: table.concat(),
+        roots: roots
+            .iter()
+            .flat_map(|root| [(root % 256) as u8, (root / 256) as u8])
+            .collect(),
+        order: order.to_vec(),
+    }
+}
+
+#[cfg(test)]
+mod tests {
+    use super::cases;
+    use crate::model::answer;
+
+    #[test]
+    fn the_model_gives_the_answers_made_by_hand() {
+        for mut case in cases() {
+            let answer = answer(&mut case.input, &case.question);
+            assert_eq!(answer, case.expected.answer, "{}", case.name);
+            assert_eq!(case.input, case.expected.after, "{}", case.name);
+        }
+    }
+}

@@ -1,0 +1,239 @@
+//! Run, whole and cut into slices, with good and bad targets and with budgets
+//! of every size.
+
+use super::{compared, name, random_questions, FEWEST_OF_EACH_ANSWER};
+use crate::generate::{big, busy, random_order, roomy};
+use crate::hold::hex;
+use crate::input::Input;
+use crate::kept::{no_room_keeps, run_keeps};
+use crate::layout::MOST_RECORDS;
+use crate::model::{answer, Answer, Question};
+use crate::random::Random;
+use crate::sample::sample;
+use crate::tally::Tally;
+
+pub const QUESTIONS: u64 = 24_000;
+const FIRST_SEED: u64 = 20_600_000;
+const FEWEST: usize = 1_000;
+/// A run is cut into so many slices at most.
+const MOST_SLICES: usize = 6;
+
+pub fn compare(count: u64) -> Result<Tally, String> {
+    let tally = Tally::new("random runs, each whole and in slices", 20_000)
+        .line("done", FEWEST)
+        .line("done with the budget just spent", FEWEST_OF_EACH_ANSWER)
+        .line("done without a swap", FEWEST_OF_EACH_ANSWER)
+        .line("paused", FEWEST)
+        .line("paused with budget 0", FEWEST_OF_EACH_ANSWER)
+        .line("no room", FEWEST)
+        .line("no room after some swaps", FEWEST_OF_EACH_ANSWER)
+        .line("no room with the budget just spent", FEWEST_OF_EACH_ANSWER)
+        .line("no room with budget 0", FEWEST_OF_EACH_ANSWER)
+        .line("not refused, with 4,096 records", 20)
+        .refusals(&[1, 2, 3, 4, 5, 6, 7, 8, 9], FEWEST_OF_EACH_ANSWER)
+        .line("swaps in all", 50_000);
+    random_questions(tally, FIRST_SEED, count, one)
+}
+
+fn one(random: &mut Random, tally: &mut Tally) -> Result<(), String> {
+    let before = match random.below(1_000) {
+        0..=579 => busy(random),
+        580..=659 => roomy(random),
+        660..=663 => big(random),
+        _ => sample(random).input,
+    };
+    let target = random_target(&before.order, random);
+    let budget = random_budget(&before, &target, random);
+    let whole = Whole {
+        before,
+        target,
+        budget,
+    };
+    let mut after = whole.before.clone();
+    let answer = compared(&mut after, &whole.question(budget), random)?;
+    tally.call();
+    count(&whole, answer, tally);
+    if let Answer::Refused(_) = answer {
+        return Ok(());
+    }
+    let swaps = swaps(answer);
+    run_keeps(&whole.before, &whole.target, swaps, &after, random)?;
+    if let Answer::Stuck { lack, .. } = answer {
+        no_room_keeps(&after, lack, random)?;
+    }
+    in_slices(&whole, answer, &after, random)
+}
+
+/// A run that is not cut.
+struct Whole {
+    before: Input,
+    target: Vec<u8>,
+    budget: u32,
+}
+
+impl Whole {
+    /// A slice of it.
+    fn question(&self, budget: u32) -> Question {
+        Question::Run {
+            target: self.target.clone(),
+            budget,
+        }
+    }
+}
+
+/// The same run in slices: their swaps add up, the last answer agrees in all
+/// else, and the buffers are the same in the end. The library is held to the
+/// model in every slice, so what is shown of the one holds for the other.
+fn in_slices(
+    whole: &Whole,
+    answer: Answer,
+    after: &Input,
+    random: &mut Random,
+) -> Result<(), String> {
+    let slices = cut(whole.budget, random);
+    let mut state = whole.before.clone();
+    let mut made = 0;
+    let mut last = answer;
+    for &budget in &slices {
+        last = compared(&mut state, &whole.question(budget), random)
+            .map_err(|report| format!("in slices {slices:?}\n{report}"))?;
+        made += swaps(last);
+    }
+    if with_swaps(last, made) == answer && state == *after {
+        return Ok(());
+    }
+    Err(format!(
+        "slices {slices:?}: {made} swaps, and at last {last:?}\n{}\n\
+         in one: {answer:?}\n{}",
+        hex(&state),
+        hex(after)
+    ))
+}
+
+/// Budgets that add up to this one: some small ones, and the rest.
+fn cut(budget: u32, random: &mut Random) -> Vec<u32> {
+    let mut rest = budget;
+    let mut slices = Vec::new();
+    for _ in 1..random.between(1, MOST_SLICES) {
+        let most = rest.min([0, 1, 5, 50][random.below(4)]);
+        let slice = random.between(0, most as usize) as u32;
+        slices.push(slice);
+        rest -= slice;
+    }
+    slices.push(rest);
+    slices
+}
+
+fn swaps(answer: Answer) -> u32 {
+    match answer {
+        Answer::Done { swaps, .. } | Answer::Paused { swaps, .. } | Answer::Stuck { swaps, .. } => {
+            swaps
+        }
+        other => panic!("a run that is not refused is never answered {other:?}"),
+    }
+}
+
+/// The answer with another number of swaps.
+fn with_swaps(answer: Answer, swaps: u32) -> Answer {
+    match answer {
+        Answer::Done { left, .. } => Answer::Done { swaps, left },
+        Answer::Paused { left, .. } => Answer::Paused { swaps, left },
+        Answer::Stuck { left, lack, .. } => Answer::Stuck { swaps, left, lack },
+        other => other,
+    }
+}
+
+fn count(whole: &Whole, answer: Answer, tally: &mut Tally) {
+    tally.count(&name(answer));
+    if let Answer::Refused(_) = answer {
+        return;
+    }
+    let budget = whole.budget;
+    let swaps = swaps(answer);
+    for _ in 0..swaps {
+        tally.count("swaps in all");
+    }
+    let just_spent = swaps > 0 && swaps == budget;
+    match answer {
+        Answer::Done { .. } => {
+            tally.count_if(just_spent, "done with the budget just spent");
+            tally.count_if(swaps == 0, "done without a swap");
+        }
+        Answer::Paused { .. } => tally.count_if(budget == 0, "paused with budget 0"),
+        _ => {
+            tally.count_if(swaps > 0, "no room after some swaps");
+            tally.count_if(just_spent, "no room with the budget just spent");
+            tally.count_if(budget == 0, "no room with budget 0");
+        }
+    }
+    let full = whole.before.store().record_count() == MOST_RECORDS;
+    tally.count_if(full, "not refused, with 4,096 records");
+}
+
+/// Mostly a permutation: the order itself, near to it, its reverse or any
+/// other. Now and then none, or one of another length.
+fn random_target(order: &[u8], random: &mut Random) -> Vec<u8> {
+    let n = order.len();
+    let mut target = order.to_vec();
+    match random.below(20) {
+        0 => {}
+        1..=4 => {
+            for _ in 0..random.below(4) {
+                exchange_neighbours(&mut target, random);
+            }
+        }
+        5 => target.reverse(),
+        6 => {
+            random.shuffle(&mut target);
+            spoil(&mut target, random);
+        }
+        7 => spoil(&mut target, random),
+        8 => target = random_order([0, n + 1, n.saturating_sub(1), 33][random.below(4)], random),
+        _ => random.shuffle(&mut target),
+    }
+    target
+}
+
+fn exchange_neighbours(list: &mut [u8], random: &mut Random) {
+    if list.len() >= 2 {
+        let upper = random.below(list.len() - 1);
+        list.swap(upper, upper + 1);
+    }
+}
+
+/// One byte is made that of another level, or n or more.
+fn spoil(list: &mut [u8], random: &mut Random) {
+    if list.is_empty() {
+        return;
+    }
+    let n = list.len();
+    let byte = match random.below(3) {
+        0 => list[random.below(n)],
+        1 => n as u8,
+        _ => 255,
+    };
+    list[random.below(n)] = byte;
+}
+
+/// 0, small, huge, or near the number of swaps that the run can make before it
+/// is done or without room.
+fn random_budget(before: &Input, target: &[u8], random: &mut Random) -> u32 {
+    let largest = Question::Run {
+        target: target.to_vec(),
+        budget: u32::MAX,
+    };
+    let enough = match answer(&mut before.clone(), &largest) {
+        Answer::Refused(_) => 3,
+        other => swaps(other),
+    };
+    match random.below(8) {
+        0 => 0,
+        1 => random.between(1, 3) as u32,
+        2 => enough,
+        3 => enough.saturating_sub(1),
+        4 => enough + 1,
+        5 => random.between(0, enough as usize) as u32,
+        6 => 1 << random.between(8, 31),
+        _ => u32::MAX,
+    }
+}

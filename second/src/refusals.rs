@@ -1,0 +1,191 @@
+//! "When the relay says no", in plain functions, one for each check.
+
+use std::collections::HashSet;
+
+use crate::layout::{
+    Record, RecordNumber, Reference, Store, MOST_RECORDS, MOST_ROOTS, MOST_VARIABLES, RECORD_BYTES,
+    ROOT_BYTES,
+};
+
+#[derive(Clone, Copy, Debug, PartialEq, Eq)]
+pub struct Refusal {
+    pub number: u32,
+    pub place: usize,
+}
+
+/// What an operation is given beside the table, its roots and order; none for
+/// "an argument which the operation hasn't got".
+#[derive(Clone, Copy, Default)]
+pub struct Arguments<'a> {
+    pub target: Option<&'a [u8]>,
+    pub position: Option<u32>,
+    pub inputs: Option<&'a [u8]>,
+    pub level: Option<u32>,
+}
+
+/// A check gives the place where it says no, or none where it passes. "Checks
+/// that speak of an argument which the operation hasn't got are skipped": with
+/// no such argument they pass.
+type Check = fn(Store, Arguments) -> Option<usize>;
+
+const CHECKS: [(u32, Check); 12] = [
+    (1, length_outside),
+    (2, |store, _| not_a_permutation(store.order)),
+    (3, |_, arguments| not_a_permutation(arguments.target?)),
+    (4, |store, _| record_malformed(store)),
+    (5, |store, _| child_not_below(store)),
+    (6, |store, _| low_equals_high(store)),
+    (7, |store, _| repeating_record(store)),
+    (8, |store, _| root_astray(store)),
+    (9, |store, _| idle_record(store)),
+    (10, |store, arguments| {
+        no_such_root(store, arguments.position?)
+    }),
+    (11, |store, arguments| {
+        inputs_outside(store, arguments.inputs?)
+    }),
+    (12, |store, arguments| {
+        no_such_level(store, arguments.level?)
+    }),
+];
+
+/// "Checks run in the order of their numbers, each over the whole buffer
+/// before the next, so the lowest number that applies is the one given."
+pub fn first_refusal(store: Store, arguments: Arguments) -> Option<Refusal> {
+    CHECKS.iter().find_map(|&(number, check)| {
+        let place = check(store, arguments)?;
+        Some(Refusal { number, place })
+    })
+}
+
+/// 1: "n outside 1..32, target length not n, table length not a multiple of 8
+/// or over 32,768 bytes, an odd number of root bytes, more than 64 roots". Its
+/// place is 0.
+fn length_outside(store: Store, arguments: Arguments) -> Option<usize> {
+    let outside = store.n() < 1
+        || store.n() > MOST_VARIABLES
+        || arguments
+            .target
+            .is_some_and(|target| target.len() != store.n())
+        || !store.table.len().is_multiple_of(RECORD_BYTES)
+        || store.table.len() > MOST_RECORDS * RECORD_BYTES
+        || !store.roots.len().is_multiple_of(ROOT_BYTES)
+        || store.roots.len() > MOST_ROOTS * ROOT_BYTES;
+    outside.then_some(0)
+}
+
+/// 2 and 3: order and target; "first position out of range or repeating an
+/// earlier one". Check 1 has passed: each of the two has length n.
+fn not_a_permutation(list: &[u8]) -> Option<usize> {
+    (0..list.len()).find(|&position| {
+        let variable = list[position];
+        usize::from(variable) >= list.len() || list[..position].contains(&variable)
+    })
+}
+
+/// 4: "record malformed"; "lowest record".
+fn record_malformed(store: Store) -> Option<usize> {
+    store
+        .record_numbers()
+        .find(|&number| is_malformed(store, number))
+        .map(place)
+}
+
+/// "Variable n or more and not 255, a zero byte not zero, a free record with a
+/// non-zero rest, or a reference past the table or to a free record."
+fn is_malformed(store: Store, number: RecordNumber) -> bool {
+    let bytes = store.bytes(number);
+    if store.is_free(number) {
+        return bytes[1..].iter().any(|&byte| byte != 0);
+    }
+    let record = store.record(number);
+    usize::from(record.variable.0) >= store.n()
+        || [bytes[1], bytes[6], bytes[7]] != [0, 0, 0]
+        || is_astray(store, record.low)
+        || is_astray(store, record.high)
+}
+
+/// "Past the table or to a free record." A constant is neither.
+fn is_astray(store: Store, reference: Reference) -> bool {
+    match reference.record() {
+        None => false,
+        Some(number) => number.0 >= store.record_count() || store.is_free(number),
+    }
+}
+
+/// 5: "a child record not strictly below its parent in the order"; "lowest
+/// parent". Below means a greater level, since "level 0 is the top".
+fn child_not_below(store: Store) -> Option<usize> {
+    store
+        .used()
+        .find(|&(_, parent)| {
+            parent
+                .child_records()
+                .any(|child| level(store, store.record(child)) <= level(store, parent))
+        })
+        .map(|(number, _)| place(number))
+}
+
+/// The level of a record's variable. Checks 2 and 4 have passed: the order
+/// holds each variable below n, and each used record has one of these.
+fn level(store: Store, record: Record) -> usize {
+    store
+        .level(record.variable)
+        .expect("an order that is a permutation holds the variable")
+}
+
+/// 6: "low equals high"; "lowest record".
+fn low_equals_high(store: Store) -> Option<usize> {
+    store
+        .used()
+        .find(|(_, record)| record.low == record.high)
+        .map(|(number, _)| place(number))
+}
+
+/// 7: "same variable, low and high as an earlier record"; "lowest repeating
+/// record".
+fn repeating_record(store: Store) -> Option<usize> {
+    let mut earlier = HashSet::new();
+    store
+        .used()
+        .find(|&(_, record)| !earlier.insert(record))
+        .map(|(number, _)| place(number))
+}
+
+/// 8: "root past the table or to a free record"; "first root position".
+fn root_astray(store: Store) -> Option<usize> {
+    store.roots().position(|root| is_astray(store, root))
+}
+
+/// 9: "a used record that no root and no used record names"; "lowest record".
+fn idle_record(store: Store) -> Option<usize> {
+    let named = store.named();
+    store
+        .used()
+        .find(|(number, _)| !named.contains(number))
+        .map(|(number, _)| place(number))
+}
+
+/// 10: "no such root"; "the position asked for".
+fn no_such_root(store: Store, position: u32) -> Option<usize> {
+    let position = position as usize;
+    (position >= store.roots().count()).then_some(position)
+}
+
+/// 11: "input bytes not n in number, or one not 0 or 1". Its place is 0.
+fn inputs_outside(store: Store, inputs: &[u8]) -> Option<usize> {
+    let outside = inputs.len() != store.n() || inputs.iter().any(|&byte| byte != 0 && byte != 1);
+    outside.then_some(0)
+}
+
+/// 12: "no such level: the pair asked for isn't in 0..n-2"; "the level". Both
+/// ends are within, so with n = 1 there is no pair at all.
+fn no_such_level(store: Store, level: u32) -> Option<usize> {
+    let level = level as usize;
+    (level + 1 >= store.n()).then_some(level)
+}
+
+/// The place of a refusal that speaks of a record is the record's number.
+fn place(number: RecordNumber) -> usize {
+    number.0
+}
