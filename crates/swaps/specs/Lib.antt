@@ -1,6 +1,5 @@
 pub mod Record
 pub mod Swap
-pub mod Bench
 pub mod Step
 pub mod Stays
 pub mod Graph

@@ -1,0 +1,167 @@
+//! Full tables: random functions of some of the 32 variables, as many of them
+//! as leave the room that the reversal of the order needs.
+
+use std::collections::HashMap;
+
+use crate::ordinary::{self, Answer};
+
+pub const RECORDS: usize = 4_096;
+const VARIABLES: usize = 32;
+const ROOTS: usize = 64;
+/// The fewest inputs of a root that fills up the rest.
+const FEWEST: usize = 4;
+
+/// The lent buffers but the target.
+#[derive(Clone, PartialEq, Eq)]
+pub struct Buffers {
+    pub table: Vec<u8>,
+    pub roots: Vec<u8>,
+    pub order: Vec<u8>,
+}
+
+pub struct Case {
+    pub name: String,
+    pub used: usize,
+    pub before: Buffers,
+    pub after: Buffers,
+    /// The order of `before`, reversed.
+    pub target: Vec<u8>,
+    pub swaps: u32,
+}
+
+/// Adds roots of that many inputs, and then of fewer and fewer, each as long
+/// as the reversal still finds room in every swap.
+pub fn full(seed: u64, most: usize) -> Case {
+    let mut random = Random::new(seed);
+    let order = random.permutation(VARIABLES);
+    let target: Vec<u8> = order.iter().rev().copied().collect();
+
+    let mut diagram = Diagram::default();
+    let mut best = None;
+    let mut of_most = 0;
+    let mut inputs = most;
+    while inputs >= FEWEST && diagram.roots.len() < ROOTS {
+        let mut larger = diagram.clone();
+        larger.add_root(&mut random, &order, inputs);
+        let fitting = larger.table(seed, &order).and_then(|before| {
+            let mut after = before.clone();
+            match ordinary::run(&mut after, &target, u32::MAX) {
+                Answer::Done { swaps } => Some((before, after, swaps)),
+                _ => None,
+            }
+        });
+        match fitting {
+            Some(fitting) => {
+                best = Some(fitting);
+                diagram = larger;
+                of_most += usize::from(inputs == most);
+            }
+            None => inputs -= 1,
+        }
+    }
+
+    let (before, after, swaps) = best.expect("one small root fits");
+    let smaller = diagram.roots.len() - of_most;
+    Case {
+        name: format!("{of_most} roots of {most} inputs and {smaller} of fewer"),
+        used: diagram.records.len(),
+        before,
+        after,
+        target,
+        swaps,
+    }
+}
+
+/// A reduced diagram, its records with children first. Reference 0 is false,
+/// 1 is true and r of 2 or more the record at r - 2.
+#[derive(Clone, Default)]
+struct Diagram {
+    records: Vec<(u8, usize, usize)>,
+    roots: Vec<usize>,
+    known: HashMap<(u8, usize, usize), usize>,
+}
+
+impl Diagram {
+    fn add_root(&mut self, random: &mut Random, order: &[u8], inputs: usize) {
+        let mut levels = random.permutation(order.len());
+        levels.truncate(inputs);
+        levels.sort_unstable();
+        let variables: Vec<u8> = levels.iter().map(|&level| order[level as usize]).collect();
+        let values: Vec<usize> = (0..1 << inputs).map(|_| random.below(2)).collect();
+        let root = self.build(&variables, &values);
+        self.roots.push(root);
+    }
+
+    fn build(&mut self, variables: &[u8], values: &[usize]) -> usize {
+        let Some((&variable, below)) = variables.split_first() else {
+            return values[0];
+        };
+        let (low, high) = values.split_at(values.len() / 2);
+        let low = self.build(below, low);
+        let high = self.build(below, high);
+        if low == high {
+            return low;
+        }
+        let record = (variable, low, high);
+        *self.known.entry(record).or_insert_with(|| {
+            self.records.push(record);
+            self.records.len() + 1
+        })
+    }
+
+    /// The records at random numbers of a table; none if it is too short.
+    fn table(&self, seed: u64, order: &[u8]) -> Option<Buffers> {
+        if self.records.len() > RECORDS {
+            return None;
+        }
+        let numbers = Random::new(seed).shuffled((0..RECORDS as u16).collect());
+        let reference = |r: usize| match r {
+            0 | 1 => (r as u16).to_le_bytes(),
+            _ => (numbers[r - 2] + 2).to_le_bytes(),
+        };
+        let mut table = [255, 0, 0, 0, 0, 0, 0, 0].repeat(RECORDS);
+        for (&number, &(variable, low, high)) in numbers.iter().zip(&self.records) {
+            let bytes = &mut table[number as usize * 8..][..8];
+            bytes[0] = variable;
+            bytes[2..4].copy_from_slice(&reference(low));
+            bytes[4..6].copy_from_slice(&reference(high));
+        }
+        Some(Buffers {
+            table,
+            roots: self.roots.iter().flat_map(|&r| reference(r)).collect(),
+            order: order.to_vec(),
+        })
+    }
+}
+
+/// Numbers that a seed decides: xorshift64*.
+struct Random(u64);
+
+impl Random {
+    fn new(seed: u64) -> Random {
+        let mut random = Random(seed.wrapping_mul(0x9E37_79B9_7F4A_7C15) | 1);
+        for _ in 0..10 {
+            random.below(2);
+        }
+        random
+    }
+
+    fn below(&mut self, limit: usize) -> usize {
+        self.0 ^= self.0 >> 12;
+        self.0 ^= self.0 << 25;
+        self.0 ^= self.0 >> 27;
+        let number = self.0.wrapping_mul(0x2545_F491_4F6C_DD1D) >> 33;
+        number as usize % limit
+    }
+
+    fn shuffled<T>(&mut self, mut list: Vec<T>) -> Vec<T> {
+        for last in (1..list.len()).rev() {
+            list.swap(last, self.below(last + 1));
+        }
+        list
+    }
+
+    fn permutation(&mut self, length: usize) -> Vec<u8> {
+        self.shuffled((0..length as u8).collect())
+    }
+}

@@ -1,0 +1,477 @@
+//! The ordinary program: the same answers and bytes as the library's, with
+//! what the standard library offers. Records are a Vec, each variable has a
+//! list of its records, the lower records of a swap are found by a HashMap,
+//! the free records are a BTreeSet, and each record counts its names.
+
+use std::collections::{BTreeSet, HashMap, HashSet};
+
+use crate::generate::Buffers;
+
+const FREE: u8 = 255;
+const RECORDS: usize = 4_096;
+const ROOTS: usize = 64;
+const VARIABLES: usize = 32;
+
+#[derive(Clone, Copy, Debug, PartialEq, Eq)]
+pub enum Answer {
+    Accepted { used: usize },
+    Refused { number: u32, place: usize },
+    Made,
+    NoRoom(Lack),
+    Done { swaps: u32 },
+    Stuck { swaps: u32, left: usize, lack: Lack },
+    Paused { swaps: u32, left: usize },
+}
+
+#[derive(Clone, Copy, Debug, PartialEq, Eq)]
+pub struct Lack {
+    level: usize,
+    needed: usize,
+    free: usize,
+}
+
+impl Answer {
+    /// The numbers with which the library gives this answer.
+    pub fn numbers(self) -> Vec<u32> {
+        let small = |number: usize| number as u32;
+        match self {
+            Answer::Accepted { used } => vec![0, small(used)],
+            Answer::Refused { number, place } => vec![number, small(place)],
+            Answer::Made => vec![0],
+            Answer::NoRoom(lack) => {
+                vec![100, small(lack.level), small(lack.needed), small(lack.free)]
+            }
+            Answer::Done { swaps } => vec![0, swaps, 0],
+            Answer::Stuck { swaps, left, lack } => vec![
+                100,
+                swaps,
+                small(left),
+                small(lack.level),
+                small(lack.needed),
+                small(lack.free),
+            ],
+            Answer::Paused { swaps, left } => vec![101, swaps, small(left)],
+        }
+    }
+}
+
+pub fn check(buffers: &Buffers) -> Answer {
+    match judge(buffers, None) {
+        Ok(used) => Answer::Accepted { used },
+        Err(refused) => refused,
+    }
+}
+
+pub fn swap(buffers: &mut Buffers, level: usize) -> Answer {
+    if let Err(refused) = judge(buffers, None) {
+        return refused;
+    }
+    if level + 1 >= buffers.order.len() {
+        return Answer::Refused {
+            number: 12,
+            place: level,
+        };
+    }
+    let mut diagram = Diagram::load(buffers);
+    match diagram.prepare(level) {
+        Ok(plan) => diagram.commit(plan),
+        Err(lack) => return Answer::NoRoom(lack),
+    }
+    diagram.store(buffers);
+    Answer::Made
+}
+
+pub fn run(buffers: &mut Buffers, target: &[u8], budget: u32) -> Answer {
+    if let Err(refused) = judge(buffers, Some(target)) {
+        return refused;
+    }
+    let mut diagram = Diagram::load(buffers);
+    let mut swaps = 0;
+    let answer = loop {
+        let Some(level) = planned(&diagram.order, target) else {
+            break Answer::Done { swaps };
+        };
+        let plan = match diagram.prepare(level) {
+            Ok(plan) => plan,
+            Err(lack) => {
+                let left = inversions(&diagram.order, target);
+                break Answer::Stuck { swaps, left, lack };
+            }
+        };
+        if swaps == budget {
+            let left = inversions(&diagram.order, target);
+            break Answer::Paused { swaps, left };
+        }
+        diagram.commit(plan);
+        swaps += 1;
+    };
+    diagram.store(buffers);
+    answer
+}
+
+/// The upper level of the next pair of the Bring Up plan.
+pub fn planned(order: &[u8], target: &[u8]) -> Option<usize> {
+    let top = (0..order.len()).find(|&level| order[level] != target[level])?;
+    let place = order.iter().position(|&variable| variable == target[top])?;
+    Some(place - 1)
+}
+
+fn inversions(order: &[u8], target: &[u8]) -> usize {
+    let mut wanted = [0; VARIABLES];
+    for (level, &variable) in target.iter().enumerate() {
+        wanted[variable as usize] = level;
+    }
+    let wanted: Vec<usize> = order.iter().map(|&v| wanted[v as usize]).collect();
+    let above = |level: usize| {
+        let mine = wanted[level];
+        wanted[..level]
+            .iter()
+            .filter(|&&other| other > mine)
+            .count()
+    };
+    (0..wanted.len()).map(above).sum()
+}
+
+/// The number of used records, or the refusal.
+fn judge(buffers: &Buffers, target: Option<&[u8]>) -> Result<usize, Answer> {
+    let refused = |number: u32, place: usize| Err(Answer::Refused { number, place });
+    let (table, roots, order) = (&buffers.table, &buffers.roots, &buffers.order);
+    let n = order.len();
+    if !(1..=VARIABLES).contains(&n)
+        || target.is_some_and(|target| target.len() != n)
+        || table.len() % 8 != 0
+        || table.len() > RECORDS * 8
+        || roots.len() % 2 != 0
+        || roots.len() > ROOTS * 2
+    {
+        return refused(1, 0);
+    }
+
+    let level = match levels(order) {
+        Ok(level) => level,
+        Err(place) => return refused(2, place),
+    };
+    if let Some(Err(place)) = target.map(levels) {
+        return refused(3, place);
+    }
+
+    let records: Vec<Record> = table.chunks_exact(8).map(Record::load).collect();
+    let wrong = |reference: u16| {
+        reference >= 2
+            && records
+                .get(reference as usize - 2)
+                .is_none_or(|record| record.variable == FREE)
+    };
+    for (number, (record, bytes)) in records.iter().zip(table.chunks_exact(8)).enumerate() {
+        let malformed = if record.variable == FREE {
+            bytes[1..] != [0; 7]
+        } else {
+            record.variable as usize >= n
+                || [bytes[1], bytes[6], bytes[7]] != [0; 3]
+                || wrong(record.low)
+                || wrong(record.high)
+        };
+        if malformed {
+            return refused(4, number);
+        }
+    }
+
+    let used = || {
+        let numbered = records.iter().enumerate();
+        numbered.filter(|(_, record)| record.variable != FREE)
+    };
+    let level_of = |reference: u16| match reference {
+        0 | 1 => usize::MAX,
+        _ => level[records[reference as usize - 2].variable as usize],
+    };
+    for (number, record) in used() {
+        let level = level[record.variable as usize];
+        if level_of(record.low) <= level || level_of(record.high) <= level {
+            return refused(5, number);
+        }
+    }
+
+    for (number, record) in used() {
+        if record.low == record.high {
+            return refused(6, number);
+        }
+    }
+
+    let mut seen = HashSet::with_capacity(records.len());
+    for (number, record) in used() {
+        if !seen.insert((record.variable, record.low, record.high)) {
+            return refused(7, number);
+        }
+    }
+
+    for (position, root) in references(roots).enumerate() {
+        if wrong(root) {
+            return refused(8, position);
+        }
+    }
+
+    let mut named = vec![false; records.len()];
+    let children = used().flat_map(|(_, record)| [record.low, record.high]);
+    for reference in children.chain(references(roots)) {
+        if reference >= 2 {
+            named[reference as usize - 2] = true;
+        }
+    }
+    let mut count = 0;
+    for (number, _) in used() {
+        if !named[number] {
+            return refused(9, number);
+        }
+        count += 1;
+    }
+    Ok(count)
+}
+
+/// The level of each variable, or the first place that makes the bytes no
+/// permutation.
+fn levels(order: &[u8]) -> Result<Vec<usize>, usize> {
+    let mut level = vec![usize::MAX; order.len()];
+    for (place, &variable) in order.iter().enumerate() {
+        match level.get_mut(variable as usize) {
+            Some(level) if *level == usize::MAX => *level = place,
+            _ => return Err(place),
+        }
+    }
+    Ok(level)
+}
+
+fn references(roots: &[u8]) -> impl Iterator<Item = u16> + '_ {
+    let pairs = roots.chunks_exact(2);
+    pairs.map(|bytes| u16::from_le_bytes([bytes[0], bytes[1]]))
+}
+
+#[derive(Clone, Copy)]
+struct Record {
+    variable: u8,
+    low: u16,
+    high: u16,
+    /// How many records and roots name this one.
+    names: u16,
+}
+
+impl Record {
+    fn load(bytes: &[u8]) -> Record {
+        Record {
+            variable: bytes[0],
+            low: u16::from_le_bytes([bytes[2], bytes[3]]),
+            high: u16::from_le_bytes([bytes[4], bytes[5]]),
+            names: 0,
+        }
+    }
+
+    fn store(&self, bytes: &mut [u8]) {
+        let [low_0, low_1] = self.low.to_le_bytes();
+        let [high_0, high_1] = self.high.to_le_bytes();
+        bytes.copy_from_slice(&[self.variable, 0, low_0, low_1, high_0, high_1, 0, 0]);
+    }
+}
+
+struct Diagram {
+    records: Vec<Record>,
+    /// The records of each variable, in rising number.
+    lists: Vec<Vec<u16>>,
+    free: BTreeSet<u16>,
+    order: Vec<u8>,
+}
+
+/// A swap that fits, before anything is changed.
+struct Plan {
+    level: usize,
+    crossing: Vec<u16>,
+    /// The other records of the upper variable.
+    staying: Vec<u16>,
+    /// Low and high of each crossing record afterwards.
+    children: Vec<(u16, u16)>,
+    /// Low and high of each new record.
+    made: Vec<(u16, u16)>,
+}
+
+impl Diagram {
+    fn load(buffers: &Buffers) -> Diagram {
+        let mut diagram = Diagram {
+            records: buffers.table.chunks_exact(8).map(Record::load).collect(),
+            lists: vec![Vec::new(); buffers.order.len()],
+            free: BTreeSet::new(),
+            order: buffers.order.clone(),
+        };
+        for number in 0..diagram.records.len() {
+            let Record {
+                variable,
+                low,
+                high,
+                ..
+            } = diagram.records[number];
+            if variable == FREE {
+                diagram.free.insert(number as u16);
+            } else {
+                diagram.lists[variable as usize].push(number as u16);
+                diagram.name(low);
+                diagram.name(high);
+            }
+        }
+        for root in references(&buffers.roots) {
+            diagram.name(root);
+        }
+        diagram
+    }
+
+    fn store(&self, buffers: &mut Buffers) {
+        for (record, bytes) in self.records.iter().zip(buffers.table.chunks_exact_mut(8)) {
+            record.store(bytes);
+        }
+        buffers.order.copy_from_slice(&self.order);
+    }
+
+    fn name(&mut self, reference: u16) {
+        if reference >= 2 {
+            self.records[reference as usize - 2].names += 1;
+        }
+    }
+
+    fn unname(&mut self, reference: u16) {
+        if reference >= 2 {
+            self.records[reference as usize - 2].names -= 1;
+        }
+    }
+
+    fn has(&self, reference: u16, variable: u8) -> bool {
+        reference >= 2 && self.records[reference as usize - 2].variable == variable
+    }
+
+    fn grandchildren(&self, reference: u16, variable: u8) -> (u16, u16) {
+        if self.has(reference, variable) {
+            let record = &self.records[reference as usize - 2];
+            (record.low, record.high)
+        } else {
+            (reference, reference)
+        }
+    }
+
+    fn prepare(&self, level: usize) -> Result<Plan, Lack> {
+        let (x, y) = (self.order[level], self.order[level + 1]);
+        let upper = &self.lists[x as usize];
+        let (crossing, staying): (Vec<u16>, Vec<u16>) = upper.iter().partition(|&&number| {
+            let record = &self.records[number as usize];
+            self.has(record.low, y) || self.has(record.high, y)
+        });
+        let mut children = Vec::with_capacity(crossing.len());
+        let mut made = Vec::new();
+        if !crossing.is_empty() {
+            let mut lower = HashMap::with_capacity(upper.len() * 2);
+            for &number in &staying {
+                let record = &self.records[number as usize];
+                lower.insert((record.low, record.high), number + 2);
+            }
+            let mut supply = self.free.iter();
+            let mut find = |a: u16, b: u16| {
+                if a == b {
+                    return a;
+                }
+                *lower.entry((a, b)).or_insert_with(|| {
+                    made.push((a, b));
+                    // Without a free record the number is never used.
+                    supply.next().map_or(0, |&number| number + 2)
+                })
+            };
+            for &number in &crossing {
+                let record = &self.records[number as usize];
+                let (f00, f01) = self.grandchildren(record.low, y);
+                let (f10, f11) = self.grandchildren(record.high, y);
+                let low = find(f00, f10);
+                let high = find(f01, f11);
+                children.push((low, high));
+            }
+        }
+        if made.len() > self.free.len() {
+            return Err(Lack {
+                level,
+                needed: made.len(),
+                free: self.free.len(),
+            });
+        }
+        Ok(Plan {
+            level,
+            crossing,
+            staying,
+            children,
+            made,
+        })
+    }
+
+    fn commit(&mut self, plan: Plan) {
+        let level = plan.level;
+        let (x, y) = (self.order[level], self.order[level + 1]);
+        self.order.swap(level, level + 1);
+        if plan.crossing.is_empty() {
+            return;
+        }
+
+        // New records take the free ones in rising number.
+        let mut new = Vec::with_capacity(plan.made.len());
+        for &(low, high) in &plan.made {
+            let number = self.free.pop_first().expect("the plan fits");
+            self.records[number as usize] = Record {
+                variable: x,
+                low,
+                high,
+                names: 0,
+            };
+            self.name(low);
+            self.name(high);
+            new.push(number);
+        }
+        for (&number, &(low, high)) in plan.crossing.iter().zip(&plan.children) {
+            let record = &mut self.records[number as usize];
+            let before = (record.low, record.high);
+            record.variable = y;
+            record.low = low;
+            record.high = high;
+            self.unname(before.0);
+            self.unname(before.1);
+            self.name(low);
+            self.name(high);
+        }
+
+        let lower = std::mem::take(&mut self.lists[y as usize]);
+        let (named, idle): (Vec<u16>, Vec<u16>) = lower
+            .into_iter()
+            .partition(|&number| self.records[number as usize].names > 0);
+        for number in idle {
+            let record = self.records[number as usize];
+            self.unname(record.low);
+            self.unname(record.high);
+            self.records[number as usize] = Record {
+                variable: FREE,
+                low: 0,
+                high: 0,
+                names: 0,
+            };
+            self.free.insert(number);
+        }
+        self.lists[x as usize] = merged(&plan.staying, &new);
+        self.lists[y as usize] = merged(&named, &plan.crossing);
+    }
+}
+
+/// Two rising lists as one.
+fn merged(a: &[u16], b: &[u16]) -> Vec<u16> {
+    let mut both = Vec::with_capacity(a.len() + b.len());
+    let (mut i, mut j) = (0, 0);
+    while i < a.len() && j < b.len() {
+        if a[i] < b[j] {
+            both.push(a[i]);
+            i += 1;
+        } else {
+            both.push(b[j]);
+            j += 1;
+        }
+    }
+    both.extend_from_slice(&a[i..]);
+    both.extend_from_slice(&b[j..]);
+    both
+}
