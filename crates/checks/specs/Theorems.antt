@@ -48,37 +48,38 @@ pub check-one : (t r o : List ℕ) {a b : Answer} → CheckOutcome t r o a → C
 check-one t r o p q = p ∙ sym q
 
 -- ---- an answer's numbers are small
--- no stage has more than m places
+-- every stage's number is below m, and it has at most m places
 unfoldable pub Bounded : ℕ → List Stage → Type 0
 Bounded m [] = Unit {0}
-Bounded m (stage k p n ∷ ss) = (n ≤ m) × Bounded m ss
+Bounded m (stage k p n ∷ ss) = (k < m) × (n ≤ m) × Bounded m ss
 
-place-below : (m : ℕ) (ss : List Stage) (k x : ℕ) → Bounded m ss → FailsFirst ss k x → x < m
+-- number and place of a refusal
+pub refusal-below : (m : ℕ) (ss : List Stage) (k x : ℕ) → Bounded m ss → FailsFirst ss k x → (k < m) × (x < m)
 unfolding Bounded
-place-below m (stage k p n ∷ ss) _ x b (here l e h) = omega (arith, b .0)
-place-below m (stage k p n ∷ ss) j x b (later h f) = place-below m ss j x (b .1) f
+refusal-below m (stage k p n ∷ ss) _ x b (here l e h) = (b .0, omega (arith, b .1))
+refusal-below m (stage k p n ∷ ss) j x b (later h f) = refusal-below m ss j x (b .2) f
 
-table-bounded : (t r o : List ℕ) (more : List Stage) (m : ℕ) → mostRecords ≤ m → Bounded m more → Sizes t r o → Bounded m (tableStages t r o ++ more)
+pub table-bounded : (t r o : List ℕ) (more : List Stage) (m : ℕ) → mostRecords ≤ m → Bounded m more → Sizes t r o → Bounded m (tableStages t r o ++ more)
 unfolding Bounded tableStages
 table-bounded t r o more m g b s =
     let few : records t ≤ m = omega (arith, s .few-records) in
-    (few, (few, (few, (few, (omega (arith, s .few-roots), (few, b))))))
+    (omega arith, few, (omega arith, few, (omega arith, few, (omega arith, few, (omega arith, omega (arith, s .few-roots), (omega arith, few, b))))))
 
--- the place of a refusal, by Check's stages or by more after them
-pub place-small : (t r o : List ℕ) (more : List Stage) (m k x : ℕ) → mostRecords ≤ m → Bounded m more → judge (checkStages t r o ++ more) ≡ verdict.Refused k x → x < m
+-- the same, by Check's stages or by more after them
+pub refusal-small : (t r o : List ℕ) (more : List Stage) (m k x : ℕ) → mostRecords ≤ m → Bounded m more → judge (checkStages t r o ++ more) ≡ verdict.Refused k x → (k < m) × (x < m)
 unfolding checkStages Bounded
-place-small t r o more m k x g b e = go k x (refused-only (checkStages t r o ++ more) k x e)
+refusal-small t r o more m k x g b e = go k x (refused-only (checkStages t r o ++ more) k x e)
   where
-    go : (j y : ℕ) → FailsFirst (checkStages t r o ++ more) j y → y < m
-    go j y (here l d h) = omega arith
+    go : (j y : ℕ) → FailsFirst (checkStages t r o ++ more) j y → (j < m) × (y < m)
+    go _ y (here l d h) = (omega arith, omega arith)
     go j y (later h f) =
         let s : Sizes t r o = sizes-if t r o (passed-only 0 h) in
-        place-below m _ j y (omega (arith, s .few-variables), table-bounded t r o more m g b s) f
+        refusal-below m _ j y (omega arith, omega (arith, s .few-variables), table-bounded t r o more m g b s) f
 
 pub check-place-small : (t r o : List ℕ) (m k x : ℕ) → mostRecords ≤ m → checkOf t r o ≡ Refused k x → x < m
 unfolding checkOf Bounded
 check-place-small t r o m k x g e =
-    place-small t r o [] m k x g tt (ap judge (append-nil (checkStages t r o)) ∙ answer-refused (judge (checkStages t r o)) (used t) k x e)
+    refusal-small t r o [] m k x g tt (ap judge (append-nil (checkStages t r o)) ∙ answer-refused (judge (checkStages t r o)) (used t) k x e) .1
 
 pub used-small : (t r o : List ℕ) (n : ℕ) → checkOf t r o ≡ Accepted n → n ≤ mostRecords
 used-small t r o n e =

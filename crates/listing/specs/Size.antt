@@ -1,5 +1,5 @@
 -- How long the texts are at most, and that the fewest digits that hold a number are its decimal digits.
-use Prim.Native.Nat.{ℕ, zero, suc, _+_, _*_, _-_, _/_, _%_, _^_, _≤_, _<_, zero-le, suc-le-suc}
+use Prim.Native.Nat.{ℕ, zero, suc, _+_, _*_, _-_, _/_, _%_, _^_, _≤_, _<_, zero-le}
 use mathlib.Core.Bool.{Bool, true, false, cond}
 use mathlib.Core.List.{List, [], _∷_, _++_}
 use mathlib.Core.Path.{_≡_, refl, ap, sym, _∙_}
@@ -9,7 +9,7 @@ use borrow.Author.Tests.{lt-ltb, le-ltb}
 use lib.Dec.{T, ltb, leb, leb→le, lit<, lit≤}
 use lib.ListN.{length, getD, length-append}
 use Rattle.io.specs.Digits.{digits, Fewest, glyph}
-use Rattle.lists.specs.First.{first, Passed, first-at, first-passed}
+use Rattle.lists.specs.First.{first, Passed, first-at, first-passed, first-within}
 use Rattle.lists.specs.Says.{either-side, true-false}
 use Rattle.diagrams.specs.Layout.{records, rootCount, variableAt, lowAt, highAt, rootAt, isFree, pairAt}
 use Rattle.slices.specs.declared.Slice.{Slice}
@@ -29,15 +29,6 @@ fewest n = first (λ k. ltb n (10 ^ suc k)) 20
 decimal-long : (n : ℕ) → length (decimal n) ≡ suc (fewest n)
 unfolding decimal places fewest
 decimal-long n = length-digits 10 (places n) n
-
-first-within : (p : ℕ → Bool) (n : ℕ) → first p n ≤ n
-unfolding first
-first-within p zero = le-refl 0
-first-within p (suc n) = here (p zero) (first-within (λ k. p (suc k)) n)
-  where
-    here : (b : Bool) → first (λ k. p (suc k)) n ≤ n → cond b zero (suc (first (λ k. p (suc k)) n)) ≤ suc n
-    here true h = zero-le
-    here false h = suc-le-suc h
 
 fewest-short : (n k : ℕ) → n < 10 ^ suc k → fewest n ≤ k
 unfolding fewest

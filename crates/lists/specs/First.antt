@@ -66,6 +66,15 @@ unfolding first
 first-holds p zero l = absurd (not-suc-le-zero l)
 first-holds p (suc n) l = at-first p n (p zero) refl (first-holds (λ k. p (suc k)) n) l
 
+pub first-within : (p : ℕ → Bool) (n : ℕ) → first p n ≤ n
+unfolding first
+first-within p zero = zero-le
+first-within p (suc n) = here (p zero) (first-within (λ k. p (suc k)) n)
+  where
+    here : (b : Bool) → first (λ k. p (suc k)) n ≤ n → cond b zero (suc (first (λ k. p (suc k)) n)) ≤ suc n
+    here true h = zero-le
+    here false h = suc-le-suc h
+
 -- ---- a loop that looks for the first index, at i of n: where it begins, goes on, finds and ends. b is the flag that its body made of p i
 pub record Scan (p : ℕ → Bool) (n i : ℕ) : Type 0 where
   pub within : i ≤ n

@@ -1,10 +1,10 @@
 -- Lists made of others: the elements that pass, each element once, the lists of all elements joined, the indices that pass.
-use Prim.Native.Nat.{ℕ, zero, suc, _+_, _≤_, _<_}
+use Prim.Native.Nat.{ℕ, zero, suc, _+_, _*_, _≤_, _<_, zero-le, suc-le-suc}
 use mathlib.Core.Bool.{Bool, true, false, cond, not}
 use mathlib.Core.List.{List, [], _∷_, _++_, append-assoc, append-nil, List·Memᴰ, List·Memᴰ·head, List·Memᴰ·tail, List·Memᴰ·not-nil, List·Memᴰ·cases-cons, List·Memᴰ·append-cases, Memᴰ·append-left, Memᴰ·append-right, Memᴰ·cast}
 use mathlib.Core.Logic.{_⊎_, inl, inr, ⊎-elim}
 use mathlib.Core.Path.{_≡_, refl, ap, sym, _∙_, subst}
-use native.Mathlib.Nat.{not-suc-le-zero}
+use native.Mathlib.Nat.{not-suc-le-zero, zero-mul, suc-mul}
 use native.Mathlib.Omega.{arith}
 use lib.Dec.{eqb, ltb}
 use lib.ListN.{length, getD, length-append}
@@ -126,6 +126,22 @@ module _ {A : Type 0} where
         go true = refl
         go false = refl
 
+    pub keep-short : (l : List A) → length (keep p l) ≤ length l
+    unfolding keep
+    keep-short [] = zero-le
+    keep-short (a ∷ l) = go (p a) (keep-short l)
+      where
+        go : (u : Bool) → length (keep p l) ≤ length l → length (cond u (a ∷ keep p l) (keep p l)) ≤ suc (length l)
+        go true h = suc-le-suc h
+        go false h = omega arith
+
+  -- ---- once, by any test
+
+  pub once-short : (same : A → A → Bool) (l : List A) → length (once same l) ≤ length l
+  unfolding once
+  once-short same [] = zero-le
+  once-short same (a ∷ l) = omega (arith, keep-short (λ b. not (same a b)) (once same l), once-short same l)
+
   -- ---- once, by a test that is equality
 
   module _ (same : A → A → Bool) (says : (a b : A) → Says (same a b) (a ≡ b)) where
@@ -207,6 +223,12 @@ module _ {A B : Type 0} (f : A → List B) where
   unfolding each
   each-append [] m = refl
   each-append (a ∷ l) m = rw (each-append l m) (sym (append-assoc (f a) (each f l) (each f m)))
+
+  -- as many elements of each
+  pub each-length : (m : ℕ) → ((a : A) → length (f a) ≡ m) → (l : List A) → length (each f l) ≡ length l * m
+  unfolding each
+  each-length m h [] = sym (zero-mul m)
+  each-length m h (a ∷ l) = omega (arith, length-append (f a) (each f l), h a, each-length m h l, suc-mul (length l) m)
 
 -- ---- which
 

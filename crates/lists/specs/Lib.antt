@@ -9,3 +9,4 @@ pub mod Total
 pub mod Which
 pub mod Collect
 pub mod Copy
+pub mod Below

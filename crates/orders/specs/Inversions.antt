@@ -1,5 +1,5 @@
 -- "An inversion is a pair of variables whose relative order differs between order and target; left is their number."
-use Prim.Native.Nat.{ℕ, suc, _+_, _≤_, _<_}
+use Prim.Native.Nat.{ℕ, suc, _+_, _*_, _≤_, _<_}
 use mathlib.Core.Bool.{Bool, true, false, _&&_, _||_}
 use mathlib.Core.List.{List}
 use mathlib.Core.Logic.{_⊎_, inl, inr, ⊎-elim}
@@ -9,7 +9,7 @@ use lib.Dec.{ltb}
 use lib.ListN.{length, getD}
 use borrow.Author.Tests.{lt-ltb, ltb-true, ltb-false}
 use Rattle.lists.specs.Says.{Says, says, says-ltb, denies}
-use Rattle.lists.specs.Total.{pairs, pairs-one, pairs-none}
+use Rattle.lists.specs.Total.{pairs, pairs-one, pairs-none, pairs-small}
 use Rattle.orders.specs.Permutation.{Permutation, levelOf, level-of-at, at-level-of}
 use Rattle.lists.specs.Says.{either-side}
 use Rattle.orders.specs.Exchange.{exchange, moved, Moved, upper, lower, apart, moves, length-exchange, exchange-level, exchange-upper, exchange-lower}
@@ -44,6 +44,10 @@ adjacent-inverted o g k h j =
 pub left-same : (o : List ℕ) → left o o ≡ 0
 unfolding left
 left-same o = pairs-none (inverted o o) (length o) (λ u v l m. denies (inverted-says o o u v) (⊎-elim (λ w. omega arith) (λ w. omega arith)))
+
+pub left-small : (o g : List ℕ) (m : ℕ) → length o ≤ m → left o g ≤ length o * m
+unfolding left
+left-small o g m h = pairs-small (inverted o g) m (length o) h
 
 -- ---- an exchange changes the relative order of its two variables only
 

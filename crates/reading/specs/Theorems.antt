@@ -22,7 +22,7 @@ use Rattle.diagrams.specs.Value.{met, value, Value}
 use Rattle.diagrams.specs.Falls.{meets-terminal, value-is}
 use Rattle.checks.specs.Stages.{Stage, stageAt, judge, FailsFirst, AllPass, none, also, only-passed, clear-if, clear-only, refused-if, refused-only, row-passes, place-passes}
 use Rattle.checks.specs.Check.{checkStages, checkOf, answered, used}
-use Rattle.checks.specs.Theorems.{Bounded, place-small}
+use Rattle.checks.specs.Theorems.{Bounded, refusal-small}
 use Rattle.checks.specs.Usable.{Usable, usable-then, all-pass}
 use Rattle.checks.specs.declared.Verdict.{Verdict}
 use Rattle.checks.specs.declared.Verdict.the-variants as verdict
@@ -76,8 +76,8 @@ module _ (t r o : List ℕ) (position : ℕ) (inputs : List ℕ) where
   pub read-place-small : (m k x : ℕ) → mostRecords ≤ m → position < m → readOf t r o position inputs ≡ reading.Refused k x → x < m
   unfolding readOf readStages Bounded
   read-place-small m k x g l e =
-      place-small t r o (stageAt 10 position (noRoot r position) ∷ stageAt 11 0 (badInputs o inputs) ∷ []) m k x g (omega arith, (omega arith, tt))
-      (read-refused (judge (readStages t r o position inputs)) (rootValue t r o position inputs) k x e)
+      refusal-small t r o (stageAt 10 position (noRoot r position) ∷ stageAt 11 0 (badInputs o inputs) ∷ []) m k x g (omega arith, omega arith, (omega arith, omega arith, tt))
+      (read-refused (judge (readStages t r o position inputs)) (rootValue t r o position inputs) k x e) .1
 
   -- one outcome for each input
   pub read-one : {a b : Reading} → ReadOutcome t r o position inputs a → ReadOutcome t r o position inputs b → a ≡ b

@@ -6,6 +6,7 @@ use native.Mathlib.Omega.{arith}
 use borrow.Author.Tests.{lt-ltb, le-ltb}
 use lib.ListN.{length, getD, set, drop}
 use lib.Seq.{take-length}
+use Rattle.lists.specs.Below.{below-at}
 use Rattle.lists.specs.Copy.{copied, copied-first}
 use Rattle.lists.specs.Fold.{fold, Steps, steps-end}
 use Rattle.checks.specs.Check.{CheckOutcome}
@@ -25,8 +26,9 @@ use Rattle.swaps.specs.declared.Swapping.{Swapping}
 use Rattle.slices.specs.Run as run
 use Rattle.slices.specs.Run.{RunOutcome}
 use Rattle.slices.specs.declared.Slice.{Slice}
-use Rattle.relay.specs.Written.{Written, written, narrowed, told}
+use Rattle.relay.specs.Written.{Written, written, told}
 use Rattle.relay.specs.Told.{toldSwap, toldRun}
+use Rattle.relay.specs.Fits.{limit, Fits, swap-fits, run-fits}
 
 pub too-short : (numbers list : List ℕ) → length list < length numbers → record { count = 0; list = list } ≡ written list numbers
 unfolding written
@@ -53,9 +55,6 @@ module _ {A : Type 0} (numbers : A → List ℕ) (list : List ℕ) {w : Written}
   pub tells : {b : A} → w ≡ written list (numbers a) → b ≡ c → b ≡ a → w ≡ written list (numbers c)
   tells e p q = tells-it e (sym q ∙ p)
 
-abbrev limit : ℕ
-limit = 4294967296
-
 module _ (t r o : List ℕ) where
   pub used-fits : {a : Answer} (n : ℕ) → CheckOutcome t r o a → a ≡ check.Accepted n → n < limit
   used-fits n p q = omega (arith, used-small t r o n (sym p ∙ q))
@@ -78,22 +77,33 @@ module _ (t r o : List ℕ) where
 
 -- ---- a call that may change a table and an order
 
-pub narrow-tells : {A : Type 0} (numbers : A → List ℕ) (list : List ℕ) {w : Written} {a b : A} {l : List ℕ} → w ≡ written list l → b ≡ a → l ≡ narrowed (numbers a) → w ≡ written list (narrowed (numbers b))
-narrow-tells numbers list e p q = e ∙ ap (written list) q ∙ ap (λ z. written list (narrowed (numbers z))) (sym p)
+-- an answer that was taken apart: its numbers are written, and fit
+module _ {A : Type 0} (numbers : A → List ℕ) where
+  pub tells-apart : (list : List ℕ) {w : Written} {a b : A} → a ≡ b → w ≡ written list (numbers b) → w ≡ written list (numbers a)
+  tells-apart list p e = rw p e
+
+  pub fits-at : (i : ℕ) {a b : A} {x : ℕ} → a ≡ b → Fits (numbers a) → x ≡ getD (numbers b) i 0 → x < limit
+  fits-at i {a} p f e = rw (e, ← p) (below-at limit (numbers a) i (omega arith) f)
 
 pub told-nothing : (most : ℕ) (list t o numbers t′ o′ : List ℕ) → length list < most → record { written = record { count = 0; list = list }; table = t; order = o } ≡ told most list t o numbers t′ o′
 unfolding told
 told-nothing most list t o numbers t′ o′ h = rw (lt-ltb (length list) most h)
 
-pub told-swap : (list t r o : List ℕ) (k : ℕ) {w : Written} {a : Swapping} {t′ o′ : List ℕ} → SwapOutcome t r o k a t′ o′ → w ≡ written list (narrowed (swap.numbers a)) → 4 ≤ length list
+pub told-swap : (list t r o : List ℕ) (k : ℕ) {w : Written} {a : Swapping} {t′ o′ : List ℕ} → SwapOutcome t r o k a t′ o′ → w ≡ written list (swap.numbers a) → 4 ≤ length list
     → record { written = w; table = t′; order = o′ } ≡ toldSwap list t r o k
 unfolding toldSwap told
 told-swap list t r o k e p h = rw (p, le-ltb (length list) 4 h, ← e)
 
-pub told-run : (list t r o g : List ℕ) (budget : ℕ) {w : Written} {a : Slice} {t′ o′ : List ℕ} → RunOutcome t r o g budget a t′ o′ → w ≡ written list (narrowed (run.numbers a)) → 6 ≤ length list
+pub told-run : (list t r o g : List ℕ) (budget : ℕ) {w : Written} {a : Slice} {t′ o′ : List ℕ} → RunOutcome t r o g budget a t′ o′ → w ≡ written list (run.numbers a) → 6 ≤ length list
     → record { written = w; table = t′; order = o′ } ≡ toldRun list t r o g budget
 unfolding toldRun told
 told-run list t r o g budget e p h = rw (p, le-ltb (length list) 6 h, ← e)
+
+pub swap-told-fits : (t r o : List ℕ) (k : ℕ) {a : Swapping} {t′ o′ : List ℕ} → SwapOutcome t r o k a t′ o′ → k < limit → Fits (swap.numbers a)
+swap-told-fits t r o k e h = rw (← e) at (swap-fits t r o k h)
+
+pub run-told-fits : (t r o g : List ℕ) (budget : ℕ) {a : Slice} {t′ o′ : List ℕ} → RunOutcome t r o g budget a t′ o′ → budget < limit → Fits (run.numbers a)
+run-told-fits t r o g budget e h = rw (← e) at (run-fits t r o g budget h)
 
 pub swap-nothing : (list t r o : List ℕ) (k : ℕ) → length list < 4 → record { written = record { count = 0; list = list }; table = t; order = o } ≡ toldSwap list t r o k
 unfolding toldSwap

@@ -1,7 +1,7 @@
 -- An answer's numbers written to a lent list: all of them at its front, or none where it is too short.
-use Prim.Native.Nat.{ℕ, _%_}
+use Prim.Native.Nat.{ℕ}
 use mathlib.Core.Bool.{cond}
-use mathlib.Core.List.{List, [], _∷_, _++_}
+use mathlib.Core.List.{List, _++_}
 use lib.Dec.{ltb}
 use lib.ListN.{length, drop}
 
@@ -17,11 +17,6 @@ written list numbers =
 
 -- ---- a call that may change a table and an order: only where its whole answer fits the lent list
 
--- each number in 32 bits
-abbrev pub narrowed : List ℕ → List ℕ
-narrowed [] = []
-narrowed (a ∷ l) = a % 4294967296 ∷ narrowed l
-
 pub record Told : Type 0 where
   pub written : Written
   pub table : List ℕ
@@ -32,4 +27,4 @@ unfoldable pub told : ℕ → List ℕ → List ℕ → List ℕ → List ℕ �
 told most list t o numbers t′ o′ =
     cond (ltb (length list) most)
     (record { written = record { count = 0; list = list }; table = t; order = o })
-    (record { written = written list (narrowed numbers); table = t′; order = o′ })
+    (record { written = written list numbers; table = t′; order = o′ })

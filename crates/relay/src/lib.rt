@@ -5,9 +5,9 @@ ghost use Rattle.reading.specs.Read as read;
 ghost use Rattle.reading.specs.Show as show;
 ghost use Rattle.swaps.specs.Outcome as swap;
 ghost use Rattle.slices.specs.Run as run;
-ghost use Prim.Native.Nat.{_%_};
-ghost use Rattle.relay.specs.Written.{written, narrowed};
+ghost use Rattle.relay.specs.Written.{written};
 ghost use Rattle.relay.specs.Told.{toldSwap, toldRun};
+ghost use Rattle.relay.specs.Fits.{Fits};
 use checks::Answer;
 use reading::Reading;
 use slices::Slice;
@@ -90,14 +90,9 @@ pub extern "C" fn relay_show(
     write(answer, &numbers)
 }
 
-fn narrow(x: usize) -> u32
-    ensures { λ r. ⌜ r ≡ x % 4294967296 ⌝ }
-{
-    (x % 4294967296) as u32
-}
-
 fn tell_swap(answer: &mut [u32], a: Swapping) -> usize
-    ensures { λ n. ⌜ record { count = n; list = now (answer .exit) } ≡ written (now (answer .entry)) (narrowed (swap.numbers a)) ⌝ }
+    requires { ⌜ Fits (swap.numbers a) ⌝ }
+    ensures { λ n. ⌜ record { count = n; list = now (answer .exit) } ≡ written (now (answer .entry)) (swap.numbers a) ⌝ }
 {
     match a {
         Swapping::Made => {
@@ -109,11 +104,11 @@ fn tell_swap(answer: &mut [u32], a: Swapping) -> usize
             needed,
             free,
         } => {
-            let numbers = [100u32, narrow(level), narrow(needed), narrow(free)];
+            let numbers = [100u32, level as u32, needed as u32, free as u32];
             write(answer, &numbers)
         }
         Swapping::Refused { number, place } => {
-            let numbers = [narrow(number as usize), narrow(place)];
+            let numbers = [number as u32, place as u32];
             write(answer, &numbers)
         }
     }
@@ -137,11 +132,12 @@ pub extern "C" fn relay_swap(
 }
 
 fn tell_run(answer: &mut [u32], a: Slice) -> usize
-    ensures { λ n. ⌜ record { count = n; list = now (answer .exit) } ≡ written (now (answer .entry)) (narrowed (run.numbers a)) ⌝ }
+    requires { ⌜ Fits (run.numbers a) ⌝ }
+    ensures { λ n. ⌜ record { count = n; list = now (answer .exit) } ≡ written (now (answer .entry)) (run.numbers a) ⌝ }
 {
     match a {
         Slice::Done { swaps, left } => {
-            let numbers = [0u32, narrow(swaps), narrow(left)];
+            let numbers = [0u32, swaps as u32, left as u32];
             write(answer, &numbers)
         }
         Slice::NoRoom {
@@ -153,20 +149,20 @@ fn tell_run(answer: &mut [u32], a: Slice) -> usize
         } => {
             let numbers = [
                 100u32,
-                narrow(swaps),
-                narrow(left),
-                narrow(level),
-                narrow(needed),
-                narrow(free),
+                swaps as u32,
+                left as u32,
+                level as u32,
+                needed as u32,
+                free as u32,
             ];
             write(answer, &numbers)
         }
         Slice::Paused { swaps, left } => {
-            let numbers = [101u32, narrow(swaps), narrow(left)];
+            let numbers = [101u32, swaps as u32, left as u32];
             write(answer, &numbers)
         }
         Slice::Refused { number, place } => {
-            let numbers = [narrow(number as usize), narrow(place)];
+            let numbers = [number as u32, place as u32];
             write(answer, &numbers)
         }
     }

@@ -2,3 +2,4 @@ pub mod Slices
 pub mod Bench
 pub mod Run
 pub mod Theorems
+pub mod Bounds

@@ -117,7 +117,7 @@ answer-paused r m l s paused i j e = (refl, (cc), (cc))
 
 -- ---- a slice makes no more swaps than its budget
 
-made-small : (r g : List ℕ) (b : ℕ) (s : State) → over.made (relay r) bringUp g b s ≤ b
+pub made-small : (r g : List ℕ) (b : ℕ) (s : State) → over.made (relay r) bringUp g b s ≤ b
 unfolding over.made
 made-small r g zero s = zero-le
 made-small r g (suc b) s = go (over.goes (relay r) bringUp g s) (made-small r g b (over.stepped (relay r) bringUp g s))
@@ -216,7 +216,7 @@ module _ (t r o g : List ℕ) (usable : Usable t r o) (target : Permutation g) (
   unfolding ranTo over.slice
   run-order b = ap (λ (w : Ran). w .order) (run-is b)
 
-  good-left : (b : ℕ) → Good r (length g) (over.after R bringUp g b s₀)
+  pub good-left : (b : ℕ) → Good r (length g) (over.after R bringUp g b s₀)
   good-left b = over.good-after R bringUp g (Good r (length g)) laws bring-up-lawful target b s₀ good-start
 
   -- ---- the table left can be used again, and every root keeps its value

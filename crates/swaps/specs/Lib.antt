@@ -15,3 +15,4 @@ pub mod Noting
 pub mod Reckoned
 pub mod Outcome
 pub mod Bytes
+pub mod Bounds

@@ -1,6 +1,6 @@
 use native.Mathlib.Omega.{arith}
 use borrow.Author.Needs.{needs}
-use Rattle.relay.proofs.Laws.{run-nothing, told-run}
+use Rattle.relay.proofs.Laws.{run-nothing, run-told-fits, told-run}
 use Rattle.relay.proofs.relay_run.Statement.{statement}
 use Rattle.relay.proofs.relay_run.Tie as tie
 
@@ -10,7 +10,7 @@ relay-run-spec =
     (tie.spec
     (λ c. run-nothing _ _ _ _ _ _ (omega arith))
     (λ c κs. search needs)
-    (λ c κs. search needs)
+    (λ c κs. search (run-told-fits, needs))
     (λ c. search needs)
     (λ c. search needs)
     (λ c. search needs)

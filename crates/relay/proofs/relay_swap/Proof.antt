@@ -1,6 +1,6 @@
 use native.Mathlib.Omega.{arith}
 use borrow.Author.Needs.{needs}
-use Rattle.relay.proofs.Laws.{swap-nothing, told-swap}
+use Rattle.relay.proofs.Laws.{swap-nothing, swap-told-fits, told-swap}
 use Rattle.relay.proofs.relay_swap.Statement.{statement}
 use Rattle.relay.proofs.relay_swap.Tie as tie
 
@@ -10,7 +10,7 @@ relay-swap-spec =
     (tie.spec
     (λ c. swap-nothing _ _ _ _ _ (omega arith))
     (λ c κs. search needs)
-    (λ c κs. search needs)
+    (λ c κs. search (swap-told-fits, needs))
     (λ c. search needs)
     (λ c. search needs)
     (λ c. search needs)

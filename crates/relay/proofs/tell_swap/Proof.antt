@@ -1,7 +1,6 @@
-use mathlib.Core.Path.{refl}
 use borrow.Author.Needs.{needs}
 use Rattle.swaps.specs.Outcome.{numbers}
-use Rattle.relay.proofs.Laws.{narrow-tells}
+use Rattle.relay.proofs.Laws.{fits-at, tells-apart}
 use Rattle.relay.proofs.tell_swap.Statement.{statement}
 use Rattle.relay.proofs.tell_swap.Tie as tie
 
@@ -13,20 +12,19 @@ tell-swap-spec =
     (λ c. search needs)
     (λ c κs. search needs)
     (λ c. search needs)
-    (λ c κs. search needs)
-    (λ c κs. search needs)
-    (λ c κs. search needs)
+    (λ c. search (fits-at numbers 1))
+    (λ c. search (fits-at numbers 2))
+    (λ c. search (fits-at numbers 3))
     (λ c. search needs)
     (λ c κs. search needs)
     (λ c. search needs)
     (λ c. search needs)
-    (λ c κs. search needs)
-    (λ c κs. search needs)
+    (λ c. search (fits-at numbers 1))
     (λ c. search needs)
     (λ c κs. search needs)
     (λ c. search needs)
-    (λ c. narrow-tells numbers _ (c .before .before .write .ensures) (c .before .before .before .before .before .enum-told .given .1) (refl))
+    (λ c. search (tells-apart numbers))
     (λ c. search needs)
-    (λ c. narrow-tells numbers _ (c .before .before .write2 .ensures) (c .before .before .before .before .before .before .before .before .before .a .given .1) (rw (c .before .before .before .before .before .before .before .narrow .ensures, c .before .before .before .before .before .before .narrow2 .ensures, c .before .before .before .before .before .narrow3 .ensures)))
+    (λ c. search (tells-apart numbers))
     (λ c. search needs)
-    (λ c. narrow-tells numbers _ (c .before .before .write3 .ensures) (c .before .before .before .before .before .before .before .before .a2 .given .1) (rw (c .before .before .before .before .before .before .narrow4 .ensures, c .before .before .before .before .before .narrow5 .ensures))))
+    (λ c. search (tells-apart numbers)))

@@ -1,0 +1,68 @@
+-- The numbers of an answer of Swap are small: a swap needs at most two records for each one, and no more are free than there are.
+use Prim.Native.Nat.{ℕ, _*_, _≤_, _<_}
+use mathlib.Core.Bool.{Bool, true, false, cond}
+use mathlib.Core.List.{List, [], _∷_, _++_}
+use mathlib.Core.Path.{_≡_, refl}
+use native.Mathlib.Omega.{arith}
+use lib.ListN.{length}
+use Rattle.lists.specs.Below.{Below}
+use Rattle.lists.specs.Count.{count-small}
+use Rattle.lists.specs.Keep.{keep, which, keep-short, once-short, each-length, which-length}
+use Rattle.diagrams.specs.Layout.{recordSize, mostRecords, records}
+use Rattle.diagrams.specs.Node.{Node, at, ref, look}
+use Rattle.diagrams.specs.Decode.{decode}
+use Rattle.diagrams.specs.Lookup.{rootsOf}
+use Rattle.checks.specs.Stages.{AllPass, also, stageAt, judge, passed-only, clear-only}
+use Rattle.checks.specs.Check.{checkStages}
+use Rattle.checks.specs.Meaning.{Sizes, sizes-if}
+use Rattle.checks.specs.Theorems.{Bounded, refusal-small}
+use Rattle.checks.specs.declared.Verdict.{Verdict}
+use Rattle.checks.specs.declared.Verdict.the-variants as verdict
+use Rattle.swaps.specs.Record.{isFreeNode, same}
+use Rattle.swaps.specs.Swap.{xAt, yAt, asked, crossing, isNew, wanted, news, needed, freeCount}
+use Rattle.swaps.specs.Outcome.{fitsIn, roomOf, noLevel, swapStages, swapAfter, swapJudged, swapOf, numbers}
+use Rattle.swaps.specs.declared.Room.the-variants as room
+
+module _ (T : ℕ → Node) (N x y : ℕ) (roots : List ℕ) where
+  -- each crossing record asks for two
+  wanted-small : length (wanted T N x y roots) ≤ 2 * N
+  unfolding wanted
+  wanted-small =
+      omega (arith, each-length (λ i. asked (look T) x y false (ref i) ∷ asked (look T) x y true (ref i) ∷ []) 2 (λ i. refl) (which (crossing T N x y roots) N), which-length (crossing T N x y roots) N, count-small (crossing T N x y roots) N)
+
+  pub needed-small : needed T N x y roots ≤ 2 * N
+  unfolding needed news
+  needed-small = omega (arith, once-short same (keep (isNew T N x y roots) (wanted T N x y roots)), keep-short (isNew T N x y roots) (wanted T N x y roots), wanted-small)
+
+  pub free-small : freeCount T N x y roots ≤ N
+  unfolding freeCount
+  free-small = count-small (λ i. isFreeNode (T i)) N
+
+-- both are small of a table that isn't too long
+pub room-small : (t r : List ℕ) (x y m : ℕ) → 2 * mostRecords < m → length t ≤ recordSize * mostRecords
+    → (needed (at (decode t)) (records t) x y (rootsOf r) < m) × (freeCount (at (decode t)) (records t) x y (rootsOf r) < m)
+room-small t r x y m big few =
+    (omega (arith, needed-small (at (decode t)) (records t) x y (rootsOf r)), omega (arith, free-small (at (decode t)) (records t) x y (rootsOf r)))
+
+-- ---- every number of an answer is below m
+
+module _ (t r o : List ℕ) (k m : ℕ) (big : 2 * mostRecords < m) (level : k < m) where
+  room-below : (b : Bool) (n f : ℕ) → (n < m) × (f < m) → Below m (numbers (swapAfter t r o k (cond b room.Made (room.NoRoom n f)) .answer))
+  room-below true n f w = (omega arith, tt)
+  room-below false n f w = (omega arith, (level, (w .0, (w .1, tt))))
+
+  sizes-passed : AllPass (swapStages t r o k) → Sizes t r o
+  unfolding swapStages checkStages
+  sizes-passed (also h rest) = sizes-if t r o (passed-only 0 h)
+
+  judged-below : (v : Verdict) → judge (swapStages t r o k) ≡ v → Below m (numbers (swapJudged t r o k v .answer))
+  unfolding roomOf swapStages Bounded
+  judged-below verdict.Clear e =
+      room-below (fitsIn t r (xAt o k) (yAt o k)) _ _ (room-small t r (xAt o k) (yAt o k) m big (sizes-passed (clear-only (swapStages t r o k) e) .few-records))
+  judged-below (verdict.Refused j x) e =
+      let w = refusal-small t r o (stageAt 12 k (noLevel o k) ∷ []) m j x (omega arith) (omega arith, omega arith, tt) e in
+      (w .0, (w .1, tt))
+
+  pub swap-numbers-small : Below m (numbers (swapOf t r o k .answer))
+  unfolding swapOf
+  swap-numbers-small = judged-below (judge (swapStages t r o k)) refl
