@@ -11,7 +11,7 @@ use lib.ListN.{length, getD, length-append}
 use Rattle.io.specs.Digits.{digits, Fewest, glyph}
 use Rattle.lists.specs.First.{first, Passed, first-at, first-passed, first-within}
 use Rattle.lists.specs.Says.{either-side, true-false}
-use Rattle.diagrams.specs.Layout.{records, rootCount, variableAt, lowAt, highAt, rootAt, isFree, pairAt}
+use Rattle.diagrams.specs.Layout.{records, rootCount, variableAt, rootAt, isFree, pairAt}
 use Rattle.slices.specs.declared.Slice.{Slice}
 use Rattle.slices.specs.declared.Slice.the-variants.{Done, NoRoom, Paused, Refused}
 use Rattle.listing.specs.Text.{bytes, places, decimal, named, joined, variableText, orderLine, contentText, recordLine, rootText, rootsLine, listing, swapsText, roomText, answerText, isRefused, printed}
@@ -122,8 +122,8 @@ unfolding contentText
 content-short t i b =
     either-short (isFree t i) (record { most = lit≤ tt })
     (both-short
-    (both-short (named-short (bytes " ") (variableAt t i) 2 256 (b .small (8 * i)) tt) (named-short (bytes " ") (lowAt t i) 4 65536 (pair-small t (8 * i + 2) b) tt))
-    (named-short (bytes " ") (highAt t i) 4 65536 (pair-small t (8 * i + 4) b) tt))
+    (both-short (named-short (bytes " ") (variableAt t i) 2 256 (b .small (8 * i)) tt) (named-short (bytes " ") _ 4 65536 (pair-small t _ b) tt))
+    (named-short (bytes " ") _ 4 65536 (pair-small t _ b) tt))
 
 record-short : (t : List ℕ) (i : ℕ) → Bytes t → i < 10000 → Short (recordLine t i) 21
 unfolding recordLine
