@@ -1,13 +1,14 @@
 //! Links the static library `relay`, from the folder RELAY_LIB_DIR or else
-//! from ../target/staticlib. A relative folder is taken from second/.
+//! from ../target/staticlib. A relative folder is taken from the folder of the
+//! program that is built: second/ or bench/.
 
 use std::env;
 use std::path::Path;
 
 fn main() {
-    let second = env::var("CARGO_MANIFEST_DIR").expect("cargo gives CARGO_MANIFEST_DIR");
+    let program = env::var("CARGO_MANIFEST_DIR").expect("cargo gives CARGO_MANIFEST_DIR");
     let folder = env::var("RELAY_LIB_DIR").unwrap_or("../target/staticlib".to_string());
-    let folder = Path::new(&second).join(folder);
+    let folder = Path::new(&program).join(folder);
     let archive = folder.join("librelay.a");
 
     println!("cargo:rerun-if-env-changed=RELAY_LIB_DIR");

@@ -1,46 +1,8 @@
 //! The three calls that are timed, each behind one safe function. Each writes
 //! the answer's numbers into the lent list and tells how many it wrote.
 
+use crate::entries::{relay_check, relay_run, relay_swap};
 use crate::generate::Buffers;
-
-extern "C" {
-    fn relay_check(
-        table: *const u8,
-        table_length: usize,
-        roots: *const u8,
-        roots_length: usize,
-        order: *const u8,
-        order_length: usize,
-        answer: *mut u32,
-        answer_length: usize,
-    ) -> usize;
-
-    fn relay_swap(
-        table: *mut u8,
-        table_length: usize,
-        roots: *const u8,
-        roots_length: usize,
-        order: *mut u8,
-        order_length: usize,
-        level: u32,
-        answer: *mut u32,
-        answer_length: usize,
-    ) -> usize;
-
-    fn relay_run(
-        table: *mut u8,
-        table_length: usize,
-        roots: *const u8,
-        roots_length: usize,
-        order: *mut u8,
-        order_length: usize,
-        target: *const u8,
-        target_length: usize,
-        budget: u32,
-        answer: *mut u32,
-        answer_length: usize,
-    ) -> usize;
-}
 
 // SAFETY, for each call below: each pointer comes with the length of the live
 // buffer that it points to, no two of the buffers overlap, and those that the

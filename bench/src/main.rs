@@ -4,6 +4,10 @@
 //! Both sides take turns on the same tables; of each the least time is shown.
 
 mod buddy;
+// Read and Show are not timed.
+#[allow(dead_code)]
+#[path = "../../second/src/entries.rs"]
+mod entries;
 mod generate;
 mod library;
 mod ordinary;

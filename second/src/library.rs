@@ -5,73 +5,9 @@
 //! to it: a change of it can then be seen afterwards, and is not taken by the
 //! compiler for impossible.
 
+use crate::entries::{relay_check, relay_read, relay_run, relay_show, relay_swap};
 use crate::input::Input;
 use crate::model::Question;
-
-extern "C" {
-    fn relay_check(
-        table: *const u8,
-        table_len: usize,
-        roots: *const u8,
-        roots_len: usize,
-        order: *const u8,
-        order_len: usize,
-        answer: *mut u32,
-        answer_len: usize,
-    ) -> usize;
-
-    fn relay_read(
-        table: *const u8,
-        table_len: usize,
-        roots: *const u8,
-        roots_len: usize,
-        order: *const u8,
-        order_len: usize,
-        position: u32,
-        inputs: *const u8,
-        inputs_len: usize,
-        answer: *mut u32,
-        answer_len: usize,
-    ) -> usize;
-
-    fn relay_show(
-        table: *const u8,
-        table_len: usize,
-        roots: *const u8,
-        roots_len: usize,
-        order: *const u8,
-        order_len: usize,
-        position: u32,
-        answer: *mut u32,
-        answer_len: usize,
-    ) -> usize;
-
-    fn relay_swap(
-        table: *mut u8,
-        table_len: usize,
-        roots: *const u8,
-        roots_len: usize,
-        order: *mut u8,
-        order_len: usize,
-        level: u32,
-        answer: *mut u32,
-        answer_len: usize,
-    ) -> usize;
-
-    fn relay_run(
-        table: *mut u8,
-        table_len: usize,
-        roots: *const u8,
-        roots_len: usize,
-        order: *mut u8,
-        order_len: usize,
-        target: *const u8,
-        target_len: usize,
-        budget: u32,
-        answer: *mut u32,
-        answer_len: usize,
-    ) -> usize;
-}
 
 // SAFETY, for each call below: each pointer comes with the length of the live
 // buffer that it points to, no two of the buffers overlap, and every one of

@@ -3,8 +3,9 @@
 //!
 //! `layout`, `refusals`, `value`, `swap`, `slice`, `model` and `printed` are
 //! the reading of the rules, and `kept` holds that reading to what it must
-//! keep. `library` is the other side, and `hold` and `compare` ask both. The
-//! cases made by hand are in `edges` and `bench`; the rest makes random ones.
+//! keep. `library`, over `entries`, is the other side, and `hold` and
+//! `compare` ask both. The cases made by hand are in `edges` and `bench`; the
+//! rest makes random ones.
 
 mod bench;
 mod by_hand;
@@ -12,6 +13,7 @@ mod compare;
 mod damage;
 mod diagram;
 mod edges;
+mod entries;
 mod generate;
 mod hold;
 mod input;
