@@ -8,7 +8,7 @@ use native.Mathlib.Nat.{lt-of-not-le, not-le-of-lt}
 use native.Mathlib.Omega.{arith}
 use lib.Dec.{eqb, leb}
 use lib.ListN.{length, getD}
-use Rattle.lists.specs.First.{first, any, Passed, first-at, first-none, first-holds}
+use Rattle.lists.specs.First.{first, any, Passed, first-at, first-none, first-holds, first-within}
 use Rattle.lists.specs.Says.{Says, Some, says, says-eqb, nowhere, passes}
 use Rattle.lists.specs.Onto.{Into, onto}
 
@@ -48,6 +48,10 @@ pub permutation-then : (o : List ℕ) → Permutation o → Passed (badPlace o) 
 permutation-then o h = passes (place-says o) (λ k l. ⊎-elim (not-le-of-lt (h .in-range k l)) (λ w. h .distinct (w .index) k (w .below) l (w .holds)))
 
 -- ---- the level of a variable
+
+pub level-within : (o : List ℕ) (v : ℕ) → levelOf o v ≤ length o
+unfolding levelOf
+level-within o v = first-within (holdsAt o v) (length o)
 
 pub level-of-at : (o : List ℕ) (k : ℕ) → Permutation o → k < length o → levelOf o (getD o k 0) ≡ k
 unfolding levelOf holdsAt

@@ -3,13 +3,14 @@ use Prim.Native.Nat.{ℕ, zero, suc, _+_, _-_, _≤_, _<_}
 use mathlib.Core.Bool.{Bool, false, not}
 use mathlib.Core.List.{List}
 use mathlib.Core.Path.{_≡_, ap, sym, _∙_}
+use native.Mathlib.Nat.{le-trans, sub-le}
 use native.Mathlib.Omega.{arith}
 use lib.Dec.{eqb}
 use lib.ListN.{length, getD}
 use lib.Seq.{ext-getD}
-use Rattle.lists.specs.First.{first, any, first-passed, first-holds, first-within}
+use Rattle.lists.specs.First.{first, any, first-passed, first-holds}
 use Rattle.lists.specs.Says.{Says, Some, says, says-eqb, refutes, stable}
-use Rattle.orders.specs.Permutation.{Permutation, holdsAt, levelOf, level-of-at, at-level-of, level-inside, same-place}
+use Rattle.orders.specs.Permutation.{Permutation, levelOf, level-within, level-of-at, at-level-of, level-inside, same-place}
 use Rattle.lists.specs.Says.{either-side}
 use Rattle.orders.specs.Exchange.{exchange}
 use Rattle.orders.specs.Inversions.{left, Adjacent, left-exchange}
@@ -64,8 +65,8 @@ same-says o g e = record {
 -- ---- Bring Up names a level of the order, whatever the target is
 
 pub bring-up-within : (o g : List ℕ) → bringUp o g ≤ length o
-unfolding bringUp levelOf
-bring-up-within o g = omega (arith, first-within (holdsAt o (getD g (first (differsAt o g) (length o)) 0)) (length o))
+unfolding bringUp
+bring-up-within o g = le-trans (sub-le _ 1) (level-within o _)
 
 -- ---- Bring Up names an adjacent inverted pair
 
