@@ -56,22 +56,22 @@ mark l y x h = go (eqb y x) refl
     go true e = let p : y ≡ x = eqb-true y x e in rw (p, getD-set-same l x 1 0 h) (or-true (marked l x))
     go false e = rw (getD-set-other l y x 1 0 (λ q. eqb-false y x e (sym q))) (or-false (marked l x))
 
--- steps that each mark the references they name: in the end what some step names is marked
-module _ (f : List ℕ → ℕ → List ℕ) (names : ℕ → ℕ → Bool) (long : (l : List ℕ) (k : ℕ) → length (f l k) ≡ length l)
-    (step : (l : List ℕ) (k x : ℕ) → x < length l → marked (f l k) x ≡ (marked l x || names x k)) where
+-- steps that each note the references they name: in the end the list has what some step names
+module _ (has : List ℕ → ℕ → Bool) (f : List ℕ → ℕ → List ℕ) (names : ℕ → ℕ → Bool) (long : (l : List ℕ) (k : ℕ) → length (f l k) ≡ length l)
+    (step : (l : List ℕ) (k x : ℕ) → x < length l → has (f l k) x ≡ (has l x || names x k)) where
   pub fold-long : (l : List ℕ) (k : ℕ) → length (fold f l k) ≡ length l
   unfolding fold
   fold-long l zero = refl
   fold-long l (suc k) = long (fold f l k) k ∙ fold-long l k
 
-  pub fold-marks : (l : List ℕ) (k x : ℕ) → x < length l → marked (fold f l k) x ≡ (marked l x || any (names x) k)
+  pub fold-names : (l : List ℕ) (k x : ℕ) → x < length l → has (fold f l k) x ≡ (has l x || any (names x) k)
   unfolding fold
-  fold-marks l zero x h = rw any-none (or-false (marked l x))
-  fold-marks l (suc k) x h =
+  fold-names l zero x h = rw any-none (or-false (has l x))
+  fold-names l (suc k) x h =
       step (fold f l k) k x (rw (fold-long l k) h)
-      ∙ ap (λ b. b || names x k) (fold-marks l k x h)
-      ∙ or-assoc (marked l x) (any (names x) k) (names x k)
-      ∙ ap (λ b. marked l x || b) (sym (any-more (names x) k))
+      ∙ ap (λ b. b || names x k) (fold-names l k x h)
+      ∙ or-assoc (has l x) (any (names x) k) (names x k)
+      ∙ ap (λ b. has l x || b) (sym (any-more (names x) k))
 
 pub root-long : (r l : List ℕ) (k : ℕ) → length (markedRoot r l k) ≡ length l
 unfolding markedRoot
@@ -112,10 +112,10 @@ none-marked x h = getD-replicate {A = ℕ} (mostRecords + 2) x 0 0 h
 marks-say : (t r : List ℕ) (x : ℕ) → x < mostRecords + 2 → marked (marksOf t r) x ≡ (any (rootNames r x) (rootCount r) || any (recordNames t x) (records t))
 unfolding marksOf
 marks-say t r x h =
-    fold-marks (markedRecord t) (recordNames t) (record-long t) (record-marks t) (fold (markedRoot r) noMarks (rootCount r)) (records t) x
-    (rw (fold-long (markedRoot r) (rootNames r) (root-long r) (root-marks r) noMarks (rootCount r), length-no-marks) h)
+    fold-names marked (markedRecord t) (recordNames t) (record-long t) (record-marks t) (fold (markedRoot r) noMarks (rootCount r)) (records t) x
+    (rw (fold-long marked (markedRoot r) (rootNames r) (root-long r) (root-marks r) noMarks (rootCount r), length-no-marks) h)
     ∙ ap (λ b. b || any (recordNames t x) (records t))
-    (fold-marks (markedRoot r) (rootNames r) (root-long r) (root-marks r) noMarks (rootCount r) x (rw length-no-marks h)
+    (fold-names marked (markedRoot r) (rootNames r) (root-long r) (root-marks r) noMarks (rootCount r) x (rw length-no-marks h)
     ∙ ap (λ v. eqb v 1 || any (rootNames r x) (rootCount r)) (none-marked x h))
 
 -- so the first unmarked record is the first idle one

@@ -24,6 +24,15 @@ pub record Sizes (t r o : List ℕ) : Type 0 where
   pub whole-roots : length r % rootSize ≡ 0
   pub few-roots : rootCount r ≤ mostRoots
 
+-- those of a table and its roots alone
+pub record Sized (t r : List ℕ) : Type 0 where
+  pub few-records : length t ≤ recordSize * mostRecords
+  pub whole-records : length t % recordSize ≡ 0
+  pub few-roots : rootCount r ≤ mostRoots
+
+pub sized : {t r o : List ℕ} → Sizes t r o → Sized t r
+sized s = record { few-records = s .few-records; whole-records = s .whole-records; few-roots = s .few-roots }
+
 sizes-says : (t r o : List ℕ) → Says (badSizes t r o)
     ((((length o ≡ 0) ⊎ (ceiling < length o)) ⊎ ((length t % recordSize ≡ 0 → ⊥) ⊎ (recordSize * mostRecords < length t)))
     ⊎ ((length r % rootSize ≡ 0 → ⊥) ⊎ (mostRoots < rootCount r)))

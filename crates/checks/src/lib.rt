@@ -11,7 +11,7 @@ use diagrams::RECORD_SIZE;
 use diagrams::ROOT_SIZE;
 use orders::Order;
 
-pub mod names;
+mod names;
 mod records;
 pub mod sizes;
 

@@ -38,13 +38,13 @@ pub fn first_dead_root(table: &[u8], roots: &[u8]) -> usize
 
 // ---- 9: each reference that a root or a used record names is marked, in one pass; then each used record looks at its mark
 
-pub fn no_marks() -> [u8; MOST_RECORDS + 2]
+fn no_marks() -> [u8; MOST_RECORDS + 2]
     ensures { λ m. ⌜ m ≡ noMarks ⌝ }
 {
     [0u8; MOST_RECORDS + 2]
 }
 
-pub fn mark(marks: &mut [u8], x: Reference)
+fn mark(marks: &mut [u8], x: Reference)
     ensures { λ _. ⌜ now (marks .exit) ≡ set (now (marks .entry)) (x .0) 1 ⌝ }
 {
     let at = x.0;
@@ -81,7 +81,7 @@ fn mark_root(marks: &mut [u8], roots: &[u8], k: usize)
     mark(marks, diagrams::root(roots, k));
 }
 
-pub fn mark_roots(marks: &mut [u8], roots: &[u8])
+fn mark_roots(marks: &mut [u8], roots: &[u8])
     ensures { λ _. ⌜ now (marks .exit) ≡ fold (markedRoot (now (roots .entry))) (now (marks .entry)) (rootCount (now (roots .entry))) ⌝ }
 {
     let m = roots.len() / ROOT_SIZE;

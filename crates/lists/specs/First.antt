@@ -121,3 +121,14 @@ any-more p (suc n) = step (p zero) (any-more (λ k. p (suc k)) n)
         → ltb (cond b zero (suc (first (λ k. p (suc k)) (suc n)))) (suc (suc n)) ≡ (ltb (cond b zero (suc (first (λ k. p (suc k)) n))) (suc n) || p (suc n))
     step true e = lt-ltb 0 (suc (suc n)) (omega arith) ∙ ap (λ b. b || p (suc n)) (sym (lt-ltb 0 (suc n) (omega arith)))
     step false e = leb·suc-suc (suc (first (λ k. p (suc k)) (suc n))) (suc n) ∙ e ∙ ap (λ b. b || p (suc n)) (sym (leb·suc-suc (suc (first (λ k. p (suc k)) n)) n))
+
+-- ---- either of two tests
+pub any-or : (p q : ℕ → Bool) (n : ℕ) → (any p n || any q n) ≡ any (λ k. p k || q k) n
+any-or p q zero = rw (any-none p, any-none q, any-none (λ k. p k || q k))
+any-or p q (suc n) = rw (any-more p n, any-more q n, any-more (λ k. p k || q k) n, ← any-or p q n) (go (any p n) (p n) (any q n) (q n))
+  where
+    go : (a b c d : Bool) → ((a || b) || (c || d)) ≡ ((a || c) || (b || d))
+    go true b c d = refl
+    go false true true d = refl
+    go false true false d = refl
+    go false false c d = refl

@@ -8,5 +8,6 @@ pub mod Keep
 pub mod Total
 pub mod Which
 pub mod Collect
+pub mod Entries
 pub mod Copy
 pub mod Below

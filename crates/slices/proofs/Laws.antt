@@ -1,40 +1,42 @@
 -- One law for each way out of a function, over plain variables: its premises are what is known there.
-use Prim.Native.Nat.{ℕ, _+_, _*_, _%_, _≤_, _<_}
+use Prim.Native.Nat.{ℕ, _+_, _≤_, _<_}
 use mathlib.Core.Bool.{Bool, true, false, cond, not, _&&_, _||_}
 use mathlib.Core.List.{List}
 use mathlib.Core.Path.{_≡_, refl, ap, sym, _∙_}
 use native.Mathlib.Omega.{arith}
-use borrow.Author.Tests.{not-true, not-false, eqb-true}
+use borrow.Author.Tests.{not-true, not-false}
 use lib.Dec.{eqb}
 use lib.ListN.{length, getD, take}
 use lib.Seq.{getD-take}
 use Rattle.lists.specs.First.{Passed, first, first-passed}
 use Rattle.lists.specs.Says.{true-false}
-use Rattle.orders.specs.Permutation.{ceiling, Permutation, badPlace, permutation-if}
+use Rattle.orders.specs.Permutation.{ceiling, Permutation}
 use Rattle.orders.specs.Exchange.{exchange}
 use Rattle.orders.specs.Order.{loadOrder, exchangedOrder, Inverse}
 use Rattle.orders.specs.Inversions.{left, Adjacent}
 use Rattle.orders.specs.Plans.{same?, bringUp, bring-up-lawful}
 use Rattle.orders.specs.Arranged.{bytesOf, Arranged, load-bytes, load-arranged, arranged-length, arranged-inverse, exchanged-arranged, exchanged-bytes, arranged-adjacent}
 use Rattle.orders.specs.declared.Order.{Order}
-use Rattle.diagrams.specs.Layout.{recordSize, mostRecords, records}
+use Rattle.diagrams.specs.Layout.{records}
 use Rattle.diagrams.specs.Node.{at}
 use Rattle.diagrams.specs.Decode.{decode}
 use Rattle.diagrams.specs.Lookup.{rootsOf}
-use Rattle.checks.specs.Meaning.{Sizes, sizes-if}
+use Rattle.checks.specs.Meaning.{Sized, sized}
 use Rattle.checks.specs.Tests.{badSizes}
 use Rattle.checks.specs.Stages as stages
-use Rattle.checks.specs.Stages.{AllPass, also, passed-only, clear-only, chain}
+use Rattle.checks.specs.Stages.{clear-only, chain}
 use Rattle.checks.specs.declared.Verdict.{Verdict}
 use Rattle.checks.specs.declared.Verdict.the-variants as verdict
-use Rattle.swaps.specs.Swap.{xAt, yAt, needed, freeCount}
+use Rattle.one_swap.specs.Swap.{xAt, yAt, needed, freeCount}
 use Rattle.swaps.specs.Outcome.{fitsIn, roomOf, tableAfter, RoomOutcome, room-fits, room-lacks}
 use Rattle.swaps.specs.Bytes.{no-room-only}
 use Rattle.swaps.specs.declared.Room.{Room}
 use Rattle.swaps.specs.declared.Room.the-variants as room
+use Rattle.checks.specs.Usable.{Usable}
 use Rattle.slices.specs.Slices as over
 use Rattle.slices.specs.Slices.{slicing-goes, slicing-rests, slicing-ends}
 use Rattle.slices.specs.Run.{State, relay, badRunSizes, runStages, answerOf, ranTo, runJudged, runOf, stateOf, Stepped, Driven}
+use Rattle.slices.specs.Bounds.{run-starts}
 use Rattle.slices.specs.declared.Slice.{Slice}
 use Rattle.slices.specs.declared.Slice.the-variants.{Done, NoRoom, Paused, Refused}
 use Rattle.slices.specs.declared.Turn.{Turn}
@@ -153,8 +155,8 @@ module _ (t r : List ℕ) {order goal : Order} {n : ℕ} (h : Arranged order n) 
 
 -- ---- the loop
 
-pub same-sizes : (t t₀ : List ℕ) → length t ≡ length t₀ → (length t₀ ≤ recordSize * mostRecords) × (length t₀ % recordSize ≡ 0) → (length t ≤ recordSize * mostRecords) × (length t % recordSize ≡ 0)
-same-sizes t t₀ e p = rw e p
+pub same-sizes : (t t₀ : List ℕ) {r : List ℕ} → length t ≡ length t₀ → Sized t₀ r → Sized t r
+same-sizes t t₀ e s = record { few-records = rw e (s .few-records); whole-records = rw e (s .whole-records); few-roots = s .few-roots }
 
 module _ {t₀ r : List ℕ} (start : Order) {goal : Order} {n budget i : ℕ} {t : List ℕ} {order : Order} (so-far : over.Slicing (relay r) bringUp (bytesOf goal n) (stateOf t₀ start n) budget i (stateOf t order n)) where
   pub drive-rests : {s : Turn} {t′ : List ℕ} → Stepped t r order goal n s t′ → not (s .moved) ≡ true → Arranged order n → Driven t₀ r start goal n budget (record { order = order; swaps = i }) t′
@@ -177,23 +179,6 @@ module _ {t₀ r : List ℕ} (start : Order) {goal : Order} {n budget i : ℕ} {
 
 -- ---- the entry
 
--- what passes the first three checks
-pub record Fit (t r o g : List ℕ) : Type 0 where
-  pub sizes : Sizes t r o
-  pub long : length g ≡ length o
-  pub order : Permutation o
-  pub target : Permutation g
-
-both-false : (a b : Bool) → (a || b) ≡ false → (a ≡ false) × (b ≡ false)
-both-false true b e = true-false e
-both-false false b e = (refl, e)
-
-fit : (t r o g : List ℕ) → AllPass (runStages t r o g) → Fit t r o g
-unfolding runStages badRunSizes
-fit t r o g (also h (also p (also q rest))) =
-    let b = both-false (badSizes t r o) (not (eqb (length g) (length o))) (passed-only 0 h) in
-    record { sizes = sizes-if t r o (b .0); long = eqb-true (length g) (length o) (not-false (eqb (length g) (length o)) (b .1)); order = permutation-if o p; target = permutation-if g q }
-
 -- a slice that was run is the definition's
 ran-is : (r g : List ℕ) (budget : ℕ) (s x : State) (swaps : ℕ) → swaps ≡ over.made (relay r) bringUp g budget s → x ≡ over.after (relay r) bringUp g budget s
     → record { answer = answerOf r swaps (left (x .order) g) x (over.judge (relay r) bringUp g x); table = x .table; order = x .order } ≡ ranTo r (over.slice (relay r) bringUp g budget s)
@@ -209,37 +194,37 @@ module _ (t r o g : List ℕ) (budget : ℕ) {v : Verdict} (judged : v ≡ stage
   run-refused k x e = run-by e
 
   module _ (clear : v ≡ verdict.Clear) where
-    pub run-fit : Fit t r o g
-    run-fit = fit t r o g (clear-only (runStages t r o g) (sym judged ∙ clear))
+    starts : Usable t r o × Permutation g × (length g ≡ length o)
+    starts = run-starts t r o g (clear-only (runStages t r o g) (sym judged ∙ clear))
 
     few : length g ≤ ceiling
-    few = omega (arith, run-fit .sizes .few-variables, run-fit .long)
+    few = omega (arith, starts .0 .sizes .few-variables, starts .2)
 
     pub target-loads : (length g ≤ ceiling) × Permutation g
-    target-loads = (few, run-fit .target)
+    target-loads = (few, starts .1)
 
     pub order-loads : (length o ≤ ceiling) × Permutation o
-    order-loads = (run-fit .sizes .few-variables, run-fit .order)
+    order-loads = (starts .0 .sizes .few-variables, starts .0 .order)
 
     pub order-few : length o ≤ ceiling
-    order-few = run-fit .sizes .few-variables
+    order-few = starts .0 .sizes .few-variables
 
-    pub table-right : (length t ≤ recordSize * mostRecords) × (length t % recordSize ≡ 0)
-    table-right = (run-fit .sizes .few-records, run-fit .sizes .whole-records)
+    pub table-right : Sized t r
+    table-right = sized (starts .0 .sizes)
 
     module _ {goal : Order} (goal-is : goal ≡ loadOrder g) where
       pub goal-arranged : Arranged goal (length o)
-      goal-arranged = rw (goal-is, ← run-fit .long) (load-arranged g (run-fit .target) few)
+      goal-arranged = rw (goal-is, ← starts .2) (load-arranged g (starts .1) few)
 
       goal-bytes : bytesOf goal (length o) ≡ g
-      goal-bytes = rw (goal-is, ← run-fit .long) (load-bytes g few)
+      goal-bytes = rw (goal-is, ← starts .2) (load-bytes g few)
 
       module _ {start : Order} (start-is : start ≡ loadOrder o) where
         pub start-arranged : Arranged start (length o)
-        start-arranged = rw start-is (load-arranged o (run-fit .order) (run-fit .sizes .few-variables))
+        start-arranged = rw start-is (load-arranged o (starts .0 .order) (starts .0 .sizes .few-variables))
 
         start-bytes : bytesOf start (length o) ≡ o
-        start-bytes = rw start-is (load-bytes o (run-fit .sizes .few-variables))
+        start-bytes = rw start-is (load-bytes o (starts .0 .sizes .few-variables))
 
         pub run-ran : {end : Left} {t′ o′ : List ℕ} {a : Slice} → Driven t r start goal (length o) budget end t′ → o′ ≡ bytesOf (end .order) (length o)
             → a ≡ answerOf r (end .swaps) (left (bytesOf (end .order) (length o)) (bytesOf goal (length o))) (stateOf t′ (end .order) (length o)) (over.judge (relay r) bringUp (bytesOf goal (length o)) (stateOf t′ (end .order) (length o)))

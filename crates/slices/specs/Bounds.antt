@@ -22,7 +22,7 @@ use Rattle.checks.specs.Usable.{Usable, usable-if, passes-all}
 use Rattle.checks.specs.Theorems.{Bounded, refusal-below, table-bounded}
 use Rattle.checks.specs.declared.Verdict as judged
 use Rattle.checks.specs.declared.Verdict.the-variants as verdict
-use Rattle.swaps.specs.Swap.{xAt, yAt}
+use Rattle.one_swap.specs.Swap.{xAt, yAt}
 use Rattle.swaps.specs.Bounds.{room-small}
 use Rattle.slices.specs.Slices as over
 use Rattle.slices.specs.Slices.{done, noRoom, paused}

@@ -19,7 +19,7 @@ use Rattle.checks.specs.Tests.{badSizes}
 use Rattle.checks.specs.Check.{orderStage, tableStages}
 use Rattle.checks.specs.declared.Verdict as judged
 use Rattle.checks.specs.declared.Verdict.the-variants as verdict
-use Rattle.swaps.specs.Swap.{xAt, yAt, needed, freeCount}
+use Rattle.one_swap.specs.Swap.{xAt, yAt, needed, freeCount}
 use Rattle.swaps.specs.Outcome.{fitsIn, tableAfter}
 use Rattle.slices.specs.Slices as over
 use Rattle.slices.specs.Slices.{Relay, Verdict, done, noRoom, paused}

@@ -24,7 +24,7 @@ use Rattle.checks.specs.Meaning.{sizes-then}
 use Rattle.checks.specs.Usable.{Usable, usable-then, all-pass}
 use Rattle.checks.specs.declared.Verdict as judged
 use Rattle.checks.specs.declared.Verdict.the-variants as verdict
-use Rattle.swaps.specs.Swap.{xAt, yAt}
+use Rattle.one_swap.specs.Swap.{xAt, yAt}
 use Rattle.swaps.specs.Outcome.{fitsIn}
 use Rattle.swaps.specs.Bytes.{swap-usable, swap-root-value}
 use Rattle.slices.specs.Slices as over

@@ -1,11 +1,9 @@
 // Run one slice of planned swaps towards a target order.
 ghost use mathlib.Core.Path.{_≡_};
-ghost use Prim.Native.Nat.{_*_, _%_, _≤_, _<_};
-ghost use lib.ListN.{length};
 ghost use Rattle.orders.specs.Arranged.{Arranged, bytesOf};
 ghost use Rattle.orders.specs.Plans.{bringUp};
 ghost use Rattle.orders.specs.Inversions.{left};
-ghost use Rattle.diagrams.specs.Layout.{mostRecords, recordSize};
+ghost use Rattle.checks.specs.Meaning.{Sized};
 ghost use Rattle.checks.specs.Stages as stages;
 ghost use Rattle.slices.specs.Slices as over;
 ghost use Rattle.slices.specs.Run.{badRunSizes, runStages, relay, answerOf, stateOf, Stepped, Driven, RunOutcome};
@@ -84,7 +82,7 @@ fn judge_run(table: &[u8], roots: &[u8], order: &[u8], target: &[u8]) -> Verdict
 // ---- one planned swap
 
 fn step(table: &mut [u8], roots: &[u8], order: Order, goal: Order, n: usize) -> Turn
-    requires { ⌜ ((length (now table) ≤ recordSize * mostRecords) × (length (now table) % recordSize ≡ 0)) × (Arranged order n × Arranged goal n) ⌝ }
+    requires { ⌜ Sized (now table) (now roots) × (Arranged order n × Arranged goal n) ⌝ }
     ensures { λ s. ⌜ Stepped (now (table .entry)) (now (roots .entry)) order goal n s (now (table .exit)) ⌝ }
 {
     if order.same(goal, n) {
@@ -110,7 +108,7 @@ fn step(table: &mut [u8], roots: &[u8], order: Order, goal: Order, n: usize) -> 
 
 // Planned swaps until none is to be made or the budget is spent.
 fn drive(table: &mut [u8], roots: &[u8], start: Order, goal: Order, n: usize, budget: usize) -> Left
-    requires { ⌜ ((length (now table) ≤ recordSize * mostRecords) × (length (now table) % recordSize ≡ 0)) × (Arranged start n × Arranged goal n) ⌝ }
+    requires { ⌜ Sized (now table) (now roots) × (Arranged start n × Arranged goal n) ⌝ }
     ensures { λ l. ⌜ Driven (now (table .entry)) (now (roots .entry)) start goal n budget l (now (table .exit)) ⌝ }
 {
     let mut order = start;
@@ -129,7 +127,7 @@ fn drive(table: &mut [u8], roots: &[u8], start: Order, goal: Order, n: usize, bu
 // ---- the answer, judged on the state left
 
 fn judge(table: &[u8], roots: &[u8], order: Order, goal: Order, n: usize, swaps: usize) -> Slice
-    requires { ⌜ ((length (now table) ≤ recordSize * mostRecords) × (length (now table) % recordSize ≡ 0)) × (Arranged order n × Arranged goal n) ⌝ }
+    requires { ⌜ Sized (now table) (now roots) × (Arranged order n × Arranged goal n) ⌝ }
     ensures { λ a. ⌜ a ≡ answerOf (now (roots .entry)) swaps (left (bytesOf order n) (bytesOf goal n)) (stateOf (now (table .entry)) order n) (over.judge (relay (now (roots .entry))) bringUp (bytesOf goal n) (stateOf (now (table .entry)) order n)) ⌝ }
 {
     let left = order.left(goal, n);

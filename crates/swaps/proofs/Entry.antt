@@ -11,42 +11,30 @@ use lib.ListN.{length, getD, set, take, drop, drop-of-length-le}
 use lib.Seq.{take-at}
 use Rattle.lists.specs.Copy.{copied, copied-first}
 use Rattle.lists.specs.Fold.{fold, Steps, steps-end}
-use Rattle.lists.specs.Keep.{which}
 use Rattle.lists.specs.Says.{true-false}
-use Rattle.lists.specs.Tabulate.{tabulate, length-tabulate, tabulate-agrees}
+use Rattle.lists.specs.Tabulate.{tabulate, tabulate-agrees}
 use Rattle.orders.specs.Exchange.{exchange}
 use Rattle.diagrams.specs.Layout.{recordSize, mostRecords, records, rootCount, isFree}
 use Rattle.diagrams.specs.Node.{Node, at}
-use Rattle.diagrams.specs.Decode.{nodeAt, decode, eight, encode}
+use Rattle.diagrams.specs.Decode.{decode, encode}
 use Rattle.diagrams.specs.Lookup.{rootsOf}
-use Rattle.diagrams.specs.Store.{storedAt, stores-encode, length-encode}
-use Rattle.checks.specs.Marks.{markedRoot, noMarks}
-use Rattle.checks.specs.Meaning.{Sizes, sizes-if}
+use Rattle.diagrams.specs.Store.{length-encode}
+use Rattle.checks.specs.Meaning.{Sizes, Sized, sized, sizes-if}
 use Rattle.checks.specs.Stages.{judge, clear-only, row-refuses, row-passes, place-refuses, place-passes}
 use Rattle.checks.specs.Check.{checkStages}
 use Rattle.checks.specs.Usable.{passes-all}
 use Rattle.checks.specs.declared.Verdict.{Verdict}
 use Rattle.checks.specs.declared.Verdict.the-variants as verdict
-use Rattle.swaps.specs.Swap.{xAt, yAt, needed, freeCount, fits, after, swapped}
-use Rattle.swaps.specs.Reckoning.{News, standsAt, noteRecord, markedKept, keptMarks, passedBy, rewritten, imageAfter}
-use Rattle.swaps.specs.Reckoned.{Reckoned, needed-is, free-count-is, fits-is, rewritten-is}
+use Rattle.one_swap.specs.Swap.{xAt, yAt, needed, freeCount, fits, after, swapped}
+use Rattle.reckoning.specs.Reckoning.{News, namesOf, rewritten}
+use Rattle.reckoning.specs.Reckoned.{Reckoned, needed-is, free-count-is, fits-is, rewritten-is}
+use Rattle.swaps.specs.Bytes.{length-decode}
 use Rattle.swaps.specs.Outcome.{room-fits, room-lacks, fitsIn, roomOf, tableAfter, Prepared, RoomOutcome, noLevel, swapStages, Swapped, swapAfter, swapJudged, swapOf}
 use Rattle.swaps.specs.declared.Room.{Room}
 use Rattle.swaps.specs.declared.Room.the-variants as room
 use Rattle.swaps.specs.declared.Swapping.the-variants.{Made, NoRoom, Refused}
 
 -- ---- the work area
-
-pub reckoned : (t : List ℕ) (x y : ℕ) (standing : List ℕ) (m : ℕ) (start : List ℕ) {p : News} (slots : List ℕ) (frees : ℕ) → records t ≤ mostRecords
-    → take m standing ≡ which (standsAt t x y) (records t) → m ≤ length standing → 4 * mostRecords ≤ length start
-    → p ≡ fold (noteRecord t x y standing m) (record { list = start; count = 0 }) (records t) → take frees slots ≡ which (isFree t) (records t) → frees ≤ length slots
-    → Reckoned t x y standing m p slots frees
-reckoned t x y standing m start slots frees few a b c d e f =
-    record { few = few; standing-is = a; standing-room = b; start = start; long = c; news-are = d; slots-are = e; slots-room = f }
-
-pub kept-all : (t r : List ℕ) (x y : ℕ) {l₀ l₁ l₂ : List ℕ} → l₀ ≡ noMarks → l₁ ≡ fold (markedRoot r) l₀ (rootCount r) → l₂ ≡ fold (markedKept t x y) l₁ (records t) → l₂ ≡ keptMarks t r x y
-unfolding keptMarks
-kept-all t r x y a b c = c ∙ ap (λ l. fold (markedKept t x y) l (records t)) (b ∙ ap (λ l. fold (markedRoot r) l (rootCount r)) a)
 
 module _ {t : List ℕ} {x y : ℕ} {standing : List ℕ} {m : ℕ} {p : News} {slots : List ℕ} {frees : ℕ} (R : Reckoned t x y standing m p slots frees) (r : List ℕ) where
   no-fit : frees < p .count → fitsIn t r x y ≡ false
@@ -66,39 +54,31 @@ module _ {t : List ℕ} {x y : ℕ} {standing : List ℕ} {m : ℕ} {p : News} {
   pub prepared-none : (image : List ℕ) → frees < p .count → Prepared t r x y (room.NoRoom (p .count) frees) image
   prepared-none image h = record { answer = answered-no h; table = λ e. true-false (sym e ∙ no-fit h) }
 
-  module _ (marks image : List ℕ) (marks-are : marks ≡ keptMarks t r x y) (h : p .count ≤ frees) (whole : length t % recordSize ≡ 0) where
+  module _ (names image : List ℕ) (names-are : names ≡ namesOf t r x standing m) (h : p .count ≤ frees) (whole : length t % recordSize ≡ 0) where
     nodes : ℕ → Node
-    nodes i = rewritten t x y standing m p slots frees marks (passedBy t i) i
-
-    stores : fold (imageAfter t x y standing m p slots frees marks) image (records t) ≡ fold (λ l i. storedAt l i (eight (nodes i))) image (records t)
-    unfolding imageAfter nodes
-    stores = ap (λ f. fold f image (records t)) (fun-ext (λ l. fun-ext (λ i. refl)))
+    nodes = rewritten t x y standing m p slots frees names
 
     fewer : needed (at (decode t)) (records t) x y (rootsOf r) ≤ freeCount (at (decode t)) (records t) x y (rootsOf r)
     fewer = rw (← needed-is R (rootsOf r), ← free-count-is R (rootsOf r)) h
 
-    long-decode : length (decode t) ≡ records t
-    unfolding decode
-    long-decode = length-tabulate (records t) (nodeAt t)
-
     swapped-nodes : tabulate (records t) nodes ≡ swapped (decode t) x y (rootsOf r)
-    unfolding swapped nodes passedBy
+    unfolding swapped nodes
     swapped-nodes =
-        tabulate-agrees (records t) _ _ (λ i b. rewritten-is R r marks marks-are fewer i b)
-        ∙ ap (λ n. tabulate n (after (at (decode t)) n x y (rootsOf r))) (sym long-decode)
+        tabulate-agrees (records t) _ _ (λ i b. rewritten-is R r names names-are fewer i b)
+        ∙ ap (λ n. tabulate n (after (at (decode t)) n x y (rootsOf r))) (sym (length-decode t))
 
     long-encode : length (encode (tabulate (records t) nodes)) ≡ length t
     long-encode = length-encode (records t) nodes ∙ omega arith
 
-    table-taken : {image′ : List ℕ} → image′ ≡ fold (imageAfter t x y standing m p slots frees marks) image (records t) → take (length t) image′ ≡ tableAfter t r x y
-    unfolding tableAfter
-    table-taken e =
-        ap (take (length t)) (e ∙ stores ∙ stores-encode image nodes (records t))
-        ∙ take-at (encode (tabulate (records t) nodes)) (drop (recordSize * records t) image) (length t) long-encode
-        ∙ ap encode swapped-nodes
-
-    pub prepared-made : {image′ : List ℕ} → image′ ≡ fold (imageAfter t x y standing m p slots frees marks) image (records t) → Prepared t r x y room.Made image′
-    prepared-made e = record { answer = answered-yes h; table = λ f. table-taken e }
+    pub prepared-made : {l : List ℕ} → l ≡ encode (tabulate (records t) (rewritten t x y standing m p slots frees names)) ++ drop (recordSize * records t) image → Prepared t r x y room.Made l
+    unfolding tableAfter nodes
+    prepared-made a = record {
+      answer = answered-yes h;
+      table = λ e.
+          ap (take (length t)) a
+          ∙ take-at (encode (tabulate (records t) nodes)) (drop (recordSize * records t) image) (length t) long-encode
+          ∙ ap encode swapped-nodes;
+    }
 
 -- ---- the table
 
@@ -137,8 +117,8 @@ module _ (t r o : List ℕ) (k : ℕ) {v : Verdict} (judged : v ≡ judge (check
     pub some-level : 1 ≤ length o
     some-level = sizes .some-variables
 
-    pub table-fits : (length t ≤ recordSize * mostRecords) × (length t % recordSize ≡ 0)
-    table-fits = (sizes .few-records, sizes .whole-records)
+    pub table-fits : Sized t r
+    table-fits = sized sizes
 
     pub swap-nowhere : length o - 1 ≤ k → record { answer = Refused 12 k; table = t; order = o } ≡ swapOf t r o k
     unfolding swapStages

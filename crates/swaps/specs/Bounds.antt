@@ -18,8 +18,8 @@ use Rattle.checks.specs.Meaning.{Sizes, sizes-if}
 use Rattle.checks.specs.Theorems.{Bounded, refusal-small}
 use Rattle.checks.specs.declared.Verdict.{Verdict}
 use Rattle.checks.specs.declared.Verdict.the-variants as verdict
-use Rattle.swaps.specs.Record.{isFreeNode, same}
-use Rattle.swaps.specs.Swap.{xAt, yAt, asked, crossing, isNew, wanted, news, needed, freeCount}
+use Rattle.one_swap.specs.Record.{isFreeNode, same}
+use Rattle.one_swap.specs.Swap.{xAt, yAt, asked, crossing, isNew, wanted, news, needed, freeCount}
 use Rattle.swaps.specs.Outcome.{fitsIn, roomOf, noLevel, swapStages, swapAfter, swapJudged, swapOf, numbers}
 use Rattle.swaps.specs.declared.Room.the-variants as room
 

@@ -29,10 +29,10 @@ use Rattle.checks.specs.Theorems.{accepts}
 use Rattle.checks.specs.declared.Verdict.{Verdict}
 use Rattle.checks.specs.declared.Verdict.the-variants as verdict
 use Rattle.checks.specs.declared.Answer.the-variants.{Accepted}
-use Rattle.swaps.specs.Record.{isUsedNode, isFreeNode, Behind, behind}
-use Rattle.swaps.specs.Swap.{xAt, yAt, crosses, dies, needed, freeCount, fits, filled, dying, usedCount, swapped}
-use Rattle.swaps.specs.Stored.{length-swapped}
-use Rattle.swaps.specs.Theorem.{Cofactors, swap-diagram, swap-bryant, swap-root, swap-else, swap-count, cofactors}
+use Rattle.one_swap.specs.Record.{isUsedNode, isFreeNode, Behind, behind}
+use Rattle.one_swap.specs.Swap.{xAt, yAt, crosses, dies, needed, freeCount, fits, filled, dying, usedCount, swapped}
+use Rattle.one_swap.specs.Stored.{length-swapped}
+use Rattle.one_swap.specs.Theorem.{Cofactors, swap-diagram, swap-bryant, swap-root, swap-else, swap-count, cofactors}
 use Rattle.swaps.specs.Outcome.{fitsIn, roomOf, tableAfter, swapStages, Swapped, swapAfter, swapJudged, swapOf, SwapOutcome}
 use Rattle.swaps.specs.declared.Room.{Room}
 use Rattle.swaps.specs.declared.Room.the-variants as room

@@ -15,7 +15,7 @@ use Rattle.checks.specs.Stages.{Stage, stageAt, judge}
 use Rattle.checks.specs.Check.{checkStages}
 use Rattle.checks.specs.declared.Verdict.{Verdict}
 use Rattle.checks.specs.declared.Verdict.the-variants as verdict
-use Rattle.swaps.specs.Swap.{xAt, yAt, needed, freeCount, fits, swapped}
+use Rattle.one_swap.specs.Swap.{xAt, yAt, needed, freeCount, fits, swapped}
 use Rattle.swaps.specs.declared.Room.{Room}
 use Rattle.swaps.specs.declared.Room.the-variants as room
 use Rattle.swaps.specs.declared.Swapping.{Swapping}

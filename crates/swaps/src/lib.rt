@@ -1,22 +1,21 @@
 // Swap two neighbouring levels of a stored diagram. The reckoning reads the table and prepares the table afterwards in a work area;
 // the lent buffers are written only when everything is known.
 ghost use mathlib.Core.Path.{_≡_};
-ghost use Prim.Native.Nat.{_*_, _%_, _≤_, _<_};
+ghost use Prim.Native.Nat.{_*_, _≤_, _<_};
 ghost use lib.ListN.{length, take};
-ghost use Rattle.lists.specs.Keep.{which};
-ghost use Rattle.diagrams.specs.Layout.{mostRecords, recordSize, records, isFree};
+ghost use Rattle.diagrams.specs.Layout.{mostRecords, recordSize};
+ghost use Rattle.checks.specs.Meaning.{Sized};
 ghost use Rattle.swaps.specs.Outcome.{roomOf, tableAfter, Prepared, RoomOutcome, SwapOutcome};
 
-mod collect;
-mod kinds;
-mod marks;
-mod news;
 mod rewrite;
 
 use checks::Verdict;
 use diagrams::MOST_RECORDS;
 use diagrams::RECORD_SIZE;
 use diagrams::Variable;
+use reckoning::collect;
+use reckoning::names;
+use reckoning::news;
 use rewrite::Numbers;
 
 // Was there room for a swap?
@@ -40,11 +39,9 @@ pub enum Swapping {
 
 // ---- the work area
 
-fn no_numbers() -> [u16; MOST_RECORDS] {
-    [0u16; MOST_RECORDS]
-}
-
-fn no_news() -> [u16; 4 * MOST_RECORDS] {
+fn no_news() -> [u16; 4 * MOST_RECORDS]
+    ensures { λ l. ⌜ length l ≡ 4 * mostRecords ⌝ }
+{
     [0u16; 4 * MOST_RECORDS]
 }
 
@@ -54,35 +51,56 @@ fn no_image() -> [u8; RECORD_SIZE * MOST_RECORDS] {
 
 // The table after the swap of x and y goes to the image, where there is room.
 fn prepare(table: &[u8], roots: &[u8], x: Variable, y: Variable, image: &mut [u8]) -> Room
-    requires { ⌜ ((records (now table) ≤ mostRecords) × (length (now table) % recordSize ≡ 0)) × ((length (now table) ≤ length (now image)) × ((x .0 < 256) × (y .0 < 256))) ⌝ }
+    requires { ⌜ (Sized (now table) (now roots) × (length (now image) ≡ recordSize * mostRecords)) × ((x .0 < 256) × (y .0 < 256)) ⌝ }
     ensures { λ a. ⌜ Prepared (now (table .entry)) (now (roots .entry)) (x .0) (y .0) a (now (image .exit)) ⌝ }
 {
-    let mut standing = no_numbers();
-    let mut slots = no_numbers();
+    let mut crossing = collect::no_entries();
+    let mut standing = collect::no_entries();
+    let mut slots = collect::no_entries();
     let mut news = no_news();
-    let count = collect::collect_standing(table, x, y, &mut standing);
+    let parts = collect::collect_upper(table, x, y, &mut crossing, &mut standing);
     let free = collect::collect_free(table, &mut slots);
-    let needed = news::reckon(table, x, y, &standing, count, &mut news);
+    let needed = news::reckon(
+        table,
+        y,
+        &standing,
+        parts.standing,
+        &crossing,
+        parts.crossing,
+        &mut news,
+    );
     if free < needed {
         return Room::NoRoom { needed, free };
     }
-    let mut marks = checks::names::no_marks();
-    checks::names::mark_roots(&mut marks, roots);
-    marks::mark_all_kept(&mut marks, table, x, y);
+    let mut lower = collect::no_entries();
+    let lowers = collect::collect_of(table, y, &mut lower);
+    let names = names::count_names(table, roots, x, &standing, parts.standing);
     let q = Numbers {
         x,
         y,
-        standing: count,
+        crossing: parts.crossing,
+        standing: parts.standing,
+        lower: lowers,
         needed,
         free,
     };
-    rewrite::rewrite(table, &standing, &news, &slots, &marks, q, image);
+    rewrite::rewrite(
+        table,
+        &crossing,
+        &standing,
+        &lower,
+        &news,
+        &slots,
+        &names,
+        q,
+        image,
+    );
     Room::Made
 }
 
 // Is there room for the swap of x and y in an accepted table? Nothing is written.
 pub fn has_room(table: &[u8], roots: &[u8], x: Variable, y: Variable) -> Room
-    requires { ⌜ ((length (now table) ≤ recordSize * mostRecords) × (length (now table) % recordSize ≡ 0)) × ((x .0 < 256) × (y .0 < 256)) ⌝ }
+    requires { ⌜ Sized (now table) (now roots) × ((x .0 < 256) × (y .0 < 256)) ⌝ }
     ensures { λ a. ⌜ a ≡ roomOf (now (table .entry)) (now (roots .entry)) (x .0) (y .0) ⌝ }
 {
     let mut image = no_image();
@@ -104,7 +122,7 @@ fn publish(table: &mut [u8], image: &[u8])
 
 // The swap of x and y in an accepted table.
 pub fn swap_table(table: &mut [u8], roots: &[u8], x: Variable, y: Variable) -> Room
-    requires { ⌜ ((length (now table) ≤ recordSize * mostRecords) × (length (now table) % recordSize ≡ 0)) × ((x .0 < 256) × (y .0 < 256)) ⌝ }
+    requires { ⌜ Sized (now table) (now roots) × ((x .0 < 256) × (y .0 < 256)) ⌝ }
     ensures { λ a. ⌜ RoomOutcome (now (table .entry)) (now (roots .entry)) (x .0) (y .0) a (now (table .exit)) ⌝ }
 {
     let mut image = no_image();

@@ -1,30 +1,37 @@
-// The table afterwards, record by record, in the work area.
+// The table afterwards, in the work area.
 ghost use mathlib.Core.Path.{_≡_};
 ghost use mathlib.Core.Bool.{false};
+ghost use mathlib.Core.List.{_++_};
 ghost use Prim.Native.Nat.{_+_, _*_, _<_, _≤_};
-ghost use lib.ListN.{length, getD};
-ghost use Rattle.lists.specs.Count.{count};
+ghost use lib.ListN.{length, getD, drop};
+ghost use Rattle.lists.specs.Collect.{Collected};
+ghost use Rattle.lists.specs.Entries.{through};
 ghost use Rattle.lists.specs.Fold.{fold};
+ghost use Rattle.lists.specs.Tabulate.{tabulate};
 ghost use Rattle.diagrams.specs.Layout.{recordSize, records, isFree};
-ghost use Rattle.diagrams.specs.Decode.{eight};
-ghost use Rattle.diagrams.specs.Store.{laid, storedAt, Fit};
+ghost use Rattle.diagrams.specs.Decode.{eight, encode};
+ghost use Rattle.diagrams.specs.Store.{laid, Fit};
 ghost use Rattle.diagrams.specs.Node.{node};
-ghost use Rattle.swaps.specs.Reckoning.{crossedAt, rewritten, imageAfter};
-ghost use Rattle.swaps.specs.Reckoned.{Reckoned};
-use super::kinds;
-use super::marks;
-use super::news;
+ghost use Rattle.reckoning.specs.Inside.{Inside, InUse};
+ghost use Rattle.reckoning.specs.Reckoning.{ofAt, crossesAt, News, crossedAt, copiedAt, buriedAt, placedAt, crossedInto, rewritten};
+ghost use Rattle.reckoning.specs.Reckoned.{Reckoned};
 use diagrams::Fields;
 use diagrams::RECORD_SIZE;
 use diagrams::RecordNumber;
 use diagrams::Reference;
 use diagrams::Variable;
+use reckoning::collect;
+use reckoning::kinds;
+use reckoning::names;
+use reckoning::news;
 
 // The numbers of one swap: the variables of the two levels, and how many entries each list of the work area has.
 pub struct Numbers {
     pub x: Variable,
     pub y: Variable,
+    pub crossing: usize,
     pub standing: usize,
+    pub lower: usize,
     pub needed: usize,
     pub free: usize,
 }
@@ -34,8 +41,8 @@ fn fresh(news: &[u16], x: Variable, k: usize) -> Fields
     requires { ⌜ (2 * k + 2 ≤ length (now news)) × (x .0 < 256) ⌝ }
     ensures { λ f. ⌜ (laid f ≡ eight (node (x .0) (getD (now (news .entry)) (2 * k) 0) (getD (now (news .entry)) (2 * k + 1) 0))) × Fit f ⌝ }
 {
-    let low = Reference(news::wide(news[2 * k]));
-    let high = Reference(news::wide(news[2 * k + 1]));
+    let low = Reference(collect::wide(news[2 * k]));
+    let high = Reference(collect::wide(news[2 * k + 1]));
     Fields::used(x, low, high)
 }
 
@@ -78,60 +85,93 @@ fn crossed(
     Fields::used(y, low, high)
 }
 
-// Record i afterwards, with so many free records before it.
-fn after(
+// ---- the image: the table, and over it what dies, what is new and what crosses
+
+fn copy_records(table: &[u8], image: &mut [u8])
+    requires { ⌜ length (now table) ≤ length (now image) ⌝ }
+    ensures { λ _. ⌜ now (image .exit) ≡ fold (copiedAt (now (table .entry))) (now (image .entry)) (records (now (table .entry))) ⌝ }
+{
+    let m = table.len() / RECORD_SIZE;
+    let mut i = 0;
+    while i < m {
+        let f = Fields::of(table, RecordNumber(i));
+        f.store(image, RecordNumber(i));
+        i += 1;
+    }
+}
+
+fn bury_unnamed(names: &[u16], i: RecordNumber, image: &mut [u8])
+    requires { ⌜ (recordSize * i .0 + recordSize ≤ length (now image)) × (i .0 + 2 < length (now names)) ⌝ }
+    ensures { λ _. ⌜ now (image .exit) ≡ buriedAt (now (names .entry)) (now (image .entry)) (i .0) ⌝ }
+{
+    if names::is_unnamed(names, i) {
+        Fields::free().store(image, i);
+    }
+}
+
+// The y records that nobody names any more become free.
+fn bury(lower: &[u16], count: usize, names: &[u16], image: &mut [u8])
+    requires { ⌜ Inside (now image) (now lower) count × (records (now image) + 2 ≤ length (now names)) ⌝ }
+    ensures { λ _. ⌜ now (image .exit) ≡ fold (through (now (lower .entry)) (buriedAt (now (names .entry)))) (now (image .entry)) count ⌝ }
+{
+    let mut k = 0;
+    while k < count {
+        bury_unnamed(names, collect::entry(lower, k), image);
+        k += 1;
+    }
+}
+
+// The new records go to the first slots.
+fn place_news(x: Variable, news: &[u16], needed: usize, slots: &[u16], image: &mut [u8])
+    requires { ⌜ (Inside (now image) (now slots) needed × (2 * needed ≤ length (now news))) × (x .0 < 256) ⌝ }
+    ensures { λ _. ⌜ now (image .exit) ≡ fold (placedAt (x .0) (record { list = now (news .entry); count = needed }) (now (slots .entry))) (now (image .entry)) needed ⌝ }
+{
+    let mut j = 0;
+    while j < needed {
+        let f = fresh(news, x, j);
+        f.store(image, collect::entry(slots, j));
+        j += 1;
+    }
+}
+
+fn cross_all(
     table: &[u8],
     standing: &[u16],
     news: &[u16],
     slots: &[u16],
-    marks: &[u8],
     q: Numbers,
-    i: RecordNumber,
-    passed: usize,
-) -> Fields
-    requires { ⌜ ((Reckoned (now table) (q .x .0) (q .y .0) (now standing) (q .standing) (record { list = now news; count = q .needed }) (now slots) (q .free) × (q .x .0 < 256)) × (q .y .0 < 256)) × ((recordSize * i .0 + recordSize ≤ length (now table)) × (records (now table) + 2 ≤ length (now marks))) ⌝ }
-    ensures { λ f. ⌜ (laid f ≡ eight (rewritten (now (table .entry)) (q .x .0) (q .y .0) (now (standing .entry)) (q .standing) (record { list = now (news .entry); count = q .needed }) (now (slots .entry)) (q .free) (now (marks .entry)) passed (i .0))) × Fit f ⌝ }
+    crossing: &[u16],
+    count: usize,
+    image: &mut [u8],
+)
+    requires { ⌜ (Reckoned (now table) (q .x .0) (q .y .0) (now standing) (q .standing) (record { list = now news; count = q .needed }) (now slots) (q .free) × (q .y .0 < 256)) × (InUse (now table) (now crossing) count × (length (now table) ≤ length (now image))) ⌝ }
+    ensures { λ _. ⌜ now (image .exit) ≡ fold (through (now (crossing .entry)) (crossedInto (now (table .entry)) (q .y .0) (now (standing .entry)) (q .standing) (record { list = now (news .entry); count = q .needed }) (now (slots .entry)) (q .free))) (now (image .entry)) count ⌝ }
 {
-    if kinds::is_crossing(table, q.x, q.y, i) {
-        return crossed(table, standing, news, slots, q, i);
+    let mut k = 0;
+    while k < count {
+        let i = collect::entry(crossing, k);
+        let f = crossed(table, standing, news, slots, q, i);
+        f.store(image, i);
+        k += 1;
     }
-    if i.is_free(table) & (passed < q.needed) {
-        return fresh(news, q.x, passed);
-    }
-    if marks::is_dying(table, q.y, marks, i) {
-        return Fields::free();
-    }
-    Fields::of(table, i)
 }
 
 pub fn rewrite(
     table: &[u8],
+    crossing: &[u16],
     standing: &[u16],
+    lower: &[u16],
     news: &[u16],
     slots: &[u16],
-    marks: &[u8],
+    names: &[u16],
     q: Numbers,
     image: &mut [u8],
 )
-    requires { ⌜ ((Reckoned (now table) (q .x .0) (q .y .0) (now standing) (q .standing) (record { list = now news; count = q .needed }) (now slots) (q .free) × (q .x .0 < 256)) × (q .y .0 < 256)) × ((length (now table) ≤ length (now image)) × (records (now table) + 2 ≤ length (now marks))) ⌝ }
-    ensures { λ _. ⌜ now (image .exit) ≡ fold (imageAfter (now (table .entry)) (q .x .0) (q .y .0) (now (standing .entry)) (q .standing) (record { list = now (news .entry); count = q .needed }) (now (slots .entry)) (q .free) (now (marks .entry))) (now (image .entry)) (records (now (table .entry))) ⌝ }
+    requires { ⌜ ((Reckoned (now table) (q .x .0) (q .y .0) (now standing) (q .standing) (record { list = now news; count = q .needed }) (now slots) (q .free) × (q .needed ≤ q .free)) × ((q .x .0 < 256) × (q .y .0 < 256))) × ((Collected (crossesAt (now table) (q .x .0) (q .y .0)) (records (now table)) (now crossing) (q .crossing) × Collected (ofAt (now table) (q .y .0)) (records (now table)) (now lower) (q .lower)) × ((length (now table) ≤ length (now image)) × (records (now image) + 2 ≤ length (now names)))) ⌝ }
+    ensures { λ _. ⌜ now (image .exit) ≡ encode (tabulate (records (now (table .entry))) (rewritten (now (table .entry)) (q .x .0) (q .y .0) (now (standing .entry)) (q .standing) (record { list = now (news .entry); count = q .needed }) (now (slots .entry)) (q .free) (now (names .entry)))) ++ drop (recordSize * records (now (table .entry))) (now (image .entry)) ⌝ }
 {
-    let m = table.len() / RECORD_SIZE;
-    let mut passed: usize = 0;
-    let mut i = 0;
-    while i < m {
-        let f = after(
-            table,
-            standing,
-            news,
-            slots,
-            marks,
-            q,
-            RecordNumber(i),
-            passed,
-        );
-        f.store(image, RecordNumber(i));
-        passed += diagrams::one(RecordNumber(i).is_free(table));
-        i += 1;
-    }
+    copy_records(table, image);
+    bury(lower, q.lower, names, image);
+    place_news(q.x, news, q.needed, slots, image);
+    cross_all(table, standing, news, slots, q, crossing, q.crossing, image);
 }

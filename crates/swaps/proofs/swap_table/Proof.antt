@@ -10,7 +10,7 @@ swap-table-spec =
     (tie.spec
     (λ c κs. search needs)
     (λ c. search needs)
-    (λ c κs. ((omega arith, c .before .before .before .before .before .pre .0 .1), (omega arith, c .before .before .before .before .before .pre .1)))
+    (λ c κs. ((c .before .before .before .before .before .pre .0, omega arith), c .before .before .before .before .before .pre .1))
     (λ c. search needs)
     (λ c. search needs)
     (λ c. search needs)

@@ -1,10 +1,8 @@
-use Prim.Native.Nat.{_-_}
-use mathlib.Core.Path.{_≡_}
 use native.Mathlib.Omega.{arith}
-use lib.ListN.{length}
-use Rattle.lists.specs.Fold.{Steps, steps-begin, steps-go, steps-end, steps}
-use Rattle.swaps.specs.Reckoning.{passedBy, imageAfter}
-use Rattle.swaps.proofs.Laws.{passed-none, passed-more, passed-small, image-after}
+use borrow.Author.Needs.{needs}
+use Rattle.reckoning.specs.Inside.{inside-of, inside-wider, inside-fewer, in-use}
+use Rattle.swaps.specs.Image.{image-is}
+use Rattle.reckoning.specs.Reckoned.{news-room}
 use Rattle.swaps.proofs.rewrite.rewrite.Statement.{statement}
 use Rattle.swaps.proofs.rewrite.rewrite.Tie as tie
 
@@ -12,16 +10,9 @@ pub rewrite-spec : {M : Type 1} → statement M
 rewrite-spec =
     tie.close
     (tie.spec
-    (λ table standing news slots marks q image₀ m passed₀ i₀ image passed i. (Steps (imageAfter table (q .x .0) (q .y .0) standing (q .standing) (record { list = news; count = q .needed }) slots (q .free) marks) image₀ m i image × (passed ≡ passedBy table i)) × (length image ≡ length image₀))
-    (λ table standing news slots marks q image₀ m passed₀ i₀ image passed i. m - i)
-    (λ c. ((steps-begin, passed-none _), search steps))
-    (λ c κs. (c .before .before .before .before .before .before .before .before .pre .0, (omega arith, c .before .before .before .before .before .before .before .before .pre .1 .1)))
-    (λ c κs. (omega (arith, c .before .before .before .loop .inv .1), c .before .after .ensures .1))
-    (λ c κs. search steps)
-    (λ c κs. search steps)
-    (λ c. omega (arith, passed-small _ _ (c .before .before .before .before .before .before .before .before .loop .inv .0 .1), c .one .ensures .1))
-    (λ c. search steps)
-    (λ c. search steps)
-    (λ c. ((steps-go (c .before .before .before .before .before .before .before .before .loop .inv .0 .0) (omega arith) (image-after _ _ _ _ _ _ _ _ _ _ _ _ (c .before .before .before .before .store .ensures) (c .before .before .before .before .before .before .after .ensures .0) (c .before .before .before .before .before .before .before .before .loop .inv .0 .1)), passed-more _ _ (c .before .before .before .before .before .before .before .before .loop .inv .0 .1) (c .before .is-free .ensures) (c .one .ensures .0)), search steps))
-    (λ c. search steps)
-    (λ c. steps-end (c .before .loop .inv .0 .0) (omega arith)))
+    (λ c κs. search needs)
+    (λ c κs. (inside-wider (c .before .before .before .before .before .before .before .before .before .before .before .before .before .args .table .now) (inside-of (c .before .before .before .before .before .before .before .before .before .before .before .before .before .pre .1 .0 .1)) (omega (arith, c .before .before .before .before .before .before .before .before .before .before .before .before .before .pre .1 .1 .0)), omega (arith, c .before .before .before .before .before .before .before .before .before .before .before .before .before .pre .1 .1 .1)))
+    (λ c κs. ((inside-wider (c .before .before .before .before .before .before .before .before .before .before .before .before .before .before .before .before .before .args .table .now) (inside-fewer (inside-of (c .before .before .before .before .before .before .before .before .before .before .before .before .before .before .before .before .before .pre .0 .0 .0 .slots-are)) (c .before .before .before .before .before .before .before .before .before .before .before .before .before .before .before .before .before .pre .0 .0 .1)) (omega (arith, c .before .before .before .before .before .before .before .before .before .before .before .before .before .before .before .before .before .pre .1 .1 .0)), news-room (c .before .before .before .before .before .before .before .before .before .before .before .before .before .before .before .before .before .pre .0 .0 .0)), c .before .before .before .before .before .before .before .before .before .before .before .before .before .before .before .before .before .pre .0 .1 .0))
+    (λ c κs. ((c .before .before .before .before .before .before .before .before .before .before .before .before .before .before .before .before .before .before .before .before .before .pre .0 .0 .0, c .before .before .before .before .before .before .before .before .before .before .before .before .before .before .before .before .before .before .before .before .before .pre .0 .1 .1), (in-use _ _ _ (c .before .before .before .before .before .before .before .before .before .before .before .before .before .before .before .before .before .before .before .before .before .pre .1 .0 .0), omega (arith, c .before .before .before .before .before .before .before .before .before .before .before .before .before .before .before .before .before .before .before .before .before .pre .1 .1 .0))))
+    (λ c. search needs)
+    (λ c. image-is (c .before .before .before .before .before .before .before .before .before .before .before .before .before .before .before .before .before .before .before .before .before .before .before .before .args .table .now) (c .before .before .before .before .before .before .before .before .before .before .before .before .before .before .before .before .before .before .before .before .before .before .before .before .args .q .x .0) (c .before .before .before .before .before .before .before .before .before .before .before .before .before .before .before .before .before .before .before .before .before .before .before .before .args .q .y .0) (c .before .before .before .before .before .before .before .before .before .before .before .before .before .before .before .before .before .before .before .before .before .before .before .before .args .standing .now) (c .before .before .before .before .before .before .before .before .before .before .before .before .before .before .before .before .before .before .before .before .before .before .before .before .args .q .standing) (record { list = c .before .before .before .before .before .before .before .before .before .before .before .before .before .before .before .before .before .before .before .before .before .before .before .before .args .news .now; count = c .before .before .before .before .before .before .before .before .before .before .before .before .before .before .before .before .before .before .before .before .before .before .before .before .args .q .needed }) (c .before .before .before .before .before .before .before .before .before .before .before .before .before .before .before .before .before .before .before .before .before .before .before .before .args .names .now) (c .before .before .before .before .before .before .before .before .before .before .before .before .before .before .before .before .before .before .before .before .before .before .before .before .pre .0 .0 .0 .slots-are) (c .before .before .before .before .before .before .before .before .before .before .before .before .before .before .before .before .before .before .before .before .before .before .before .before .pre .1 .0 .1) (c .before .before .before .before .before .before .before .before .before .before .before .before .before .before .before .before .before .before .before .before .before .before .before .before .pre .1 .0 .0) (c .before .before .before .before .before .before .before .before .before .before .before .before .before .before .before .before .before .before .before .before .before .before .before .before .pre .0 .0 .1) (c .before .before .before .before .before .before .before .before .before .before .before .before .before .before .before .before .before .before .before .before .before .before .before .before .args .image .now) (c .before .before .before .before .before .before .before .before .before .before .before .before .before .before .copy-records .ensures) (c .before .before .before .before .before .before .before .before .before .before .bury .ensures) (c .before .before .before .before .before .before .place-news .ensures) (c .before .before .cross-all .ensures)))

@@ -1,0 +1,259 @@
+-- What a record is to a swap, by its bytes: one law for each way out of a function, over plain variables.
+use Prim.Native.Nat.{ℕ, _+_, _-_, _*_, _≤_, _<_}
+use mathlib.Core.Bool.{Bool, true, false, not, _&&_, _||_}
+use mathlib.Core.List.{List}
+use mathlib.Core.Path.{_≡_, refl, ap, sym, _∙_}
+use native.Mathlib.Omega.{arith}
+use borrow.Author.Needs.{needs}
+use borrow.Author.Tests.{eq-eqb, ne-eqb, lt-ltb, le-ltb, eqb-true, eqb-false, ltb-true, ltb-false}
+use lib.Dec.{eqb, ltb}
+use lib.ListN.{length, getD, set}
+use lib.Seq.{set-out}
+use Rattle.lists.specs.First.{first, any}
+use Rattle.lists.specs.Collect.{Collected}
+use Rattle.lists.specs.Entries.{through}
+use Rattle.lists.specs.Fold.{fold, Steps}
+use Rattle.lists.specs.Which.{which-agrees}
+use Rattle.diagrams.specs.Layout.{recordSize, mostRecords, records, rootCount, rootAt, variableAt, lowAt, highAt, isFree, isUsed}
+use Rattle.diagrams.specs.Node.{Node, free, node, pick, at, ref}
+use Rattle.diagrams.specs.Decode.{decode}
+use Rattle.diagrams.specs.Lookup.{lookup, node-of, free-of, past-of, Stored, record-at, stored}
+use Rattle.diagrams.specs.Reduced.{look-plain}
+use Rattle.checks.specs.Meaning.{Sized}
+use Rattle.one_swap.specs.Record.{lowOf, highOf, isOf, UsedOf, of-true}
+use Rattle.one_swap.specs.Swap.{grandchild, f00, f01, f10, f11, crosses}
+use Rattle.reckoning.specs.Grands.{Grands}
+use Rattle.reckoning.specs.declared.kinds.Grandchildren.{Grandchildren}
+use Rattle.reckoning.specs.Reckoning.{crossesAt, standsAt, News, matchesAt, newAt, notePair, noteCrossing, slotAt, settledAt, named, namedRoot, namedBy, namedOther, noNames, namesOf}
+use Rattle.reckoning.specs.Inside.{entries}
+use Rattle.reckoning.specs.Naming.{Countable, countable-none, countable-less, countable-named, countable-fold, root-step, other-step}
+
+pub no-constant : {b : Bool} (x : ℕ) → b ≡ ltb x 2 → b ≡ false → 2 ≤ x
+no-constant x e h = ltb-false x 2 (sym e ∙ h)
+
+-- ---- a used record of a variable
+
+module _ (t : List ℕ) (v : ℕ) where
+  used-of : (i : ℕ) (f : Bool) → isFree t i ≡ f → i < records t → (not f && eqb (variableAt t i) v) ≡ isOf v (lookup t (ref i))
+  unfolding isOf
+  used-of i true q l = rw (free-of t i l (eqb-true (variableAt t i) 255 q))
+  used-of i false q l = rw (node-of t i l (eqb-false (variableAt t i) 255 q))
+
+  pub record-of : (i : ℕ) {u : Bool} {w : ℕ} → u ≡ isUsed t i → w ≡ variableAt t i → i < records t → (u && eqb w v) ≡ isOf v (lookup t (ref i))
+  record-of i e p l = rw (e, p) (used-of i (isFree t i) refl l)
+
+  none-of : (x : ℕ) → lookup t x ≡ free → false ≡ isOf v (lookup t x)
+  unfolding isOf
+  none-of x e = rw e
+
+  pub constant-of : {b : Bool} (x : ℕ) → b ≡ ltb x 2 → b ≡ true → false ≡ isOf v (lookup t x)
+  constant-of x e h = none-of x (look-plain (at (decode t)) x (ltb-true x 2 (sym e ∙ h)))
+
+  pub outside-of : {i : ℕ} (x : ℕ) → i ≡ x - 2 → 2 ≤ x → records t ≤ i → false ≡ isOf v (lookup t x)
+  outside-of {i} x e h l = let z : x ≡ ref i = omega arith in none-of x (rw z (past-of t i l))
+
+  pub within-of : {i : ℕ} {b : Bool} (x : ℕ) → i ≡ x - 2 → b ≡ isOf v (lookup t (ref i)) → 2 ≤ x → b ≡ isOf v (lookup t x)
+  within-of {i} x e p h = let z : x ≡ ref i = omega arith in rw z p
+
+pub ruleset kind = (no-constant, record-of, constant-of, outside-of, within-of, needs)
+
+-- ---- a crossing record
+
+module _ (t : List ℕ) (x y : ℕ) where
+  crossing-by : (i : ℕ) (f : Bool) → isFree t i ≡ f → i < records t
+      → (isOf x (lookup t (ref i)) && (isOf y (lookup t (lowAt t i)) || isOf y (lookup t (highAt t i)))) ≡ crosses (lookup t) x y (ref i)
+  unfolding crosses isOf lowOf highOf
+  crossing-by i true q l = rw (free-of t i l (eqb-true (variableAt t i) 255 q))
+  crossing-by i false q l = rw (node-of t i l (eqb-false (variableAt t i) 255 q))
+
+  pub crossing-at : (i : ℕ) {a b c : Bool} {l h : ℕ} → a ≡ isOf x (lookup t (ref i)) → l ≡ lowAt t i → b ≡ isOf y (lookup t l) → h ≡ highAt t i → c ≡ isOf y (lookup t h) → i < records t
+      → (a && (b || c)) ≡ crosses (lookup t) x y (ref i)
+  crossing-at i p q r s u l = rw (p, r, q, u, s) (crossing-by i (isFree t i) refl l)
+
+-- ---- a grandchild
+
+module _ (t : List ℕ) (y : ℕ) where
+  inside : {r v l h : ℕ} → Stored t r v l h → (2 ≤ r) × (recordSize * (r - 2) + recordSize ≤ length t)
+  inside (record-at i b u) = (omega arith, omega arith)
+
+  named-inside : {b : Bool} (c : ℕ) → b ≡ isOf y (lookup t c) → b ≡ true → (2 ≤ c) × (recordSize * (c - 2) + recordSize ≤ length t)
+  named-inside c e h = inside (stored t c (of-true y (lookup t c) (sym e ∙ h) .is))
+
+  pub named-two : {b : Bool} (c : ℕ) → b ≡ isOf y (lookup t c) → b ≡ true → 2 ≤ c
+  named-two c e h = named-inside c e h .0
+
+  pub named-there : {b : Bool} {i : ℕ} (c : ℕ) → b ≡ isOf y (lookup t c) → b ≡ true → i ≡ c - 2 → recordSize * i + recordSize ≤ length t
+  named-there c e h p = rw p (named-inside c e h .1)
+
+  pub grand-self : {b : Bool} (c : ℕ) (side : Bool) → b ≡ isOf y (lookup t c) → b ≡ false → c ≡ grandchild (lookup t) y side c
+  unfolding grandchild
+  grand-self c side e h = rw (sym e ∙ h)
+
+  grand-side : (side : Bool) {r v l h : ℕ} → Stored t r v l h → isOf y (lookup t r) ≡ true → pick side (lowAt t (r - 2)) (highAt t (r - 2)) ≡ grandchild (lookup t) y side r
+  unfolding grandchild lowOf highOf
+  grand-side side (record-at i b u) e = let z : ref i - 2 ≡ i = omega arith in rw (z, e, node-of t i b u)
+
+  taken : (side : Bool) (c : ℕ) → isOf y (lookup t c) ≡ true → pick side (lowAt t (c - 2)) (highAt t (c - 2)) ≡ grandchild (lookup t) y side c
+  taken side c e = grand-side side (stored t c (of-true y (lookup t c) e .is)) e
+
+  pub grand-high : {b : Bool} {i r : ℕ} (c : ℕ) (side : Bool) → b ≡ isOf y (lookup t c) → b ≡ true → i ≡ c - 2 → side ≡ true → r ≡ highAt t i → r ≡ grandchild (lookup t) y side c
+  grand-high c side e h p s q = q ∙ ap (highAt t) p ∙ rw s (taken true c (sym e ∙ h))
+
+  pub grand-low : {b : Bool} {i r : ℕ} (c : ℕ) (side : Bool) → b ≡ isOf y (lookup t c) → b ≡ true → i ≡ c - 2 → side ≡ false → r ≡ lowAt t i → r ≡ grandchild (lookup t) y side c
+  grand-low c side e h p s q = q ∙ ap (lowAt t) p ∙ rw s (taken false c (sym e ∙ h))
+
+pub ruleset grand = (named-two, named-there, grand-self, grand-high, grand-low, needs)
+
+-- ---- what is named
+
+module _ (l : List ℕ) (q : ℕ) where
+  -- the count of one reference has room
+  pub count-fits : {v : ℕ} → Countable l 1 → v ≡ getD l q 0 → v + 1 < 65536
+  count-fits c e = omega (arith, c .at q)
+
+  pub name-counts : {v : ℕ} → v ≡ getD l q 0 → set l q (v + 1) ≡ named l q
+  unfolding named
+  name-counts e = rw e
+
+  pub name-passes : length l ≤ q → l ≡ named l q
+  unfolding named
+  name-passes h = sym (set-out l q (getD l q 0 + 1) h)
+
+module _ (t l : List ℕ) (i : ℕ) where
+  pub both-counts : {a b : ℕ} {l₁ l₂ : List ℕ} → a ≡ lowAt t i → l₁ ≡ named l a → b ≡ highAt t i → l₂ ≡ named l₁ b → l₂ ≡ namedBy t l i
+  both-counts p q r s = cc
+
+pub root-counts : (r l : List ℕ) (k : ℕ) {x : ℕ} {l₁ : List ℕ} → x ≡ rootAt r k → l₁ ≡ named l x → l₁ ≡ namedRoot r l k
+root-counts r l k p q = cc
+
+pub entry-counts : (t standing l : List ℕ) (k : ℕ) {i : ℕ} {l₁ : List ℕ} → i ≡ getD standing k 0 → l₁ ≡ namedBy t l i → l₁ ≡ through standing (namedBy t) l k
+entry-counts t standing l k p q = rw (← p) q
+
+pub ruleset counting = (both-counts, root-counts, entry-counts, count-fits, name-counts, name-passes, countable-less, countable-named, needs)
+
+module _ (t l : List ℕ) (x i : ℕ) where
+  other : (u b : Bool) → u ≡ isUsed t i → b ≡ isOf x (lookup t (ref i)) → (isUsed t i && not (isOf x (lookup t (ref i)))) ≡ (u && not b)
+  other u b e p = cc
+
+  pub other-counts : {u b : Bool} {l′ : List ℕ} → u ≡ isUsed t i → b ≡ isOf x (lookup t (ref i)) → (u && not b) ≡ true → l′ ≡ namedBy t l i → l′ ≡ namedOther t x l i
+  unfolding namedOther
+  other-counts {u} {b} e p h q = rw (other u b e p ∙ h) q
+
+  pub other-passes : {u b : Bool} → u ≡ isUsed t i → b ≡ isOf x (lookup t (ref i)) → (u && not b) ≡ false → l ≡ namedOther t x l i
+  unfolding namedOther
+  other-passes {u} {b} e p h = rw (other u b e p ∙ h)
+
+pub ruleset naming = (other-counts, other-passes, needs)
+
+-- a loop of steps with at most two names each has room for the next
+pub countable-now : {f : List ℕ → ℕ → List ℕ} {a l : List ℕ} {n i : ℕ} → ((l : List ℕ) (k n : ℕ) → Countable l (n + 2) → Countable (f l k) n) → Steps f a n i l → i < n → Countable a (2 * n) → Countable l 2
+countable-now {f} {a} {l} {n} {i} step s h c = rw (s .so-far) (countable-fold f step a i 2 (countable-less c (omega arith)))
+
+-- ---- the x records, split
+
+module _ (t : List ℕ) (x y : ℕ) {list : List ℕ} {k : ℕ} where
+  -- what crosses is of x
+  pub crossing-part : Collected (λ i. isOf x (lookup t (ref i)) && crosses (lookup t) x y (ref i)) (records t) list k → Collected (crossesAt t x y) (records t) list k
+  unfolding crosses
+  crossing-part c = record { entries = c .entries ∙ which-agrees _ _ (records t) (λ i h. twice (isOf x (lookup t (ref i))) _); room = c .room }
+    where
+      twice : (a b : Bool) → (a && (a && b)) ≡ (a && b)
+      twice true b = refl
+      twice false b = refl
+
+  pub standing-part : Collected (λ i. isOf x (lookup t (ref i)) && not (crosses (lookup t) x y (ref i))) (records t) list k → Collected (standsAt t x y) (records t) list k
+  unfolding standsAt
+  standing-part c = c
+
+-- ---- noting what is asked for
+
+module _ (t standing : List ℕ) (count : ℕ) (l : List ℕ) (n a b : ℕ) where
+  abbrev pub newsOf : News
+  newsOf = record { list = l; count = n }
+
+  pub note-same : a ≡ b → newsOf ≡ notePair t standing count newsOf a b
+  unfolding notePair
+  note-same e = rw (eq-eqb a b e)
+
+  module _ {k : ℕ} (at : k ≡ first (matchesAt t standing a b) count) (ne : a ≡ b → ⊥) where
+    pub note-stands : k < count → newsOf ≡ notePair t standing count newsOf a b
+    unfolding notePair
+    note-stands h = rw (ne-eqb a b ne, lt-ltb (first (matchesAt t standing a b) count) count (rw at at h))
+
+    module _ {j : ℕ} (found : j ≡ first (newAt l a b) n) (past : count ≤ k) where
+      none : any (matchesAt t standing a b) count ≡ false
+      none = le-ltb (first (matchesAt t standing a b) count) count (rw at at past)
+
+      pub note-known : j < n → newsOf ≡ notePair t standing count newsOf a b
+      unfolding notePair
+      note-known h = rw (ne-eqb a b ne, none, lt-ltb (first (newAt l a b) n) n (rw found at h))
+
+      pub note-new : n ≤ j → record { list = set (set l (2 * n) a) (2 * n + 1) b; count = n + 1 } ≡ notePair t standing count newsOf a b
+      unfolding notePair
+      note-new h = rw (ne-eqb a b ne, none, le-ltb (first (newAt l a b) n) n (rw found at h))
+
+pub ruleset noting = (note-same, note-stands, note-known, note-new, entries)
+
+-- a crossing record, low before high
+pub crossing-notes : (t standing : List ℕ) (y count i : ℕ) (p : News) {g : Grandchildren} {p₁ p₂ : News} → Grands t y i g
+    → p₁ ≡ notePair t standing count p (g .f00 .0) (g .f10 .0) → p₂ ≡ notePair t standing count p₁ (g .f01 .0) (g .f11 .0) → p₂ ≡ noteCrossing t y standing count p i
+crossing-notes t standing y count i p g n₁ n₂ = rw (← g .is00, ← g .is10, ← g .is01, ← g .is11, ← n₁) n₂
+
+-- ---- where X(a, b) is
+
+module _ (t standing : List ℕ) (count : ℕ) (l : List ℕ) (n : ℕ) (slots : List ℕ) (frees a b : ℕ) where
+  pub settle-same : a ≡ b → a ≡ settledAt t standing count (newsOf t standing count l n a b) slots frees a b
+  unfolding settledAt
+  settle-same e = rw (eq-eqb a b e)
+
+  module _ {k : ℕ} (at : k ≡ first (matchesAt t standing a b) count) (ne : a ≡ b → ⊥) where
+    pub settle-stands : {v : ℕ} → v ≡ getD standing k 0 → k < count → v + 2 ≡ settledAt t standing count (newsOf t standing count l n a b) slots frees a b
+    unfolding settledAt
+    settle-stands e h = rw (ne-eqb a b ne, lt-ltb (first (matchesAt t standing a b) count) count (rw at at h), ← at, e)
+
+    pub settle-slot : {j v : ℕ} → j ≡ first (newAt l a b) n → v ≡ slotAt slots frees j → count ≤ k → v + 2 ≡ settledAt t standing count (newsOf t standing count l n a b) slots frees a b
+    unfolding settledAt
+    settle-slot e p h = rw (ne-eqb a b ne, le-ltb (first (matchesAt t standing a b) count) count (rw at at h), ← e, p)
+
+pub slot-in : (slots : List ℕ) (frees j : ℕ) {v : ℕ} → v ≡ getD slots j 0 → j < frees → v ≡ slotAt slots frees j
+unfolding slotAt
+slot-in slots frees j e h = rw (lt-ltb j frees h) e
+
+pub slot-out : (slots : List ℕ) (frees j : ℕ) → frees ≤ j → 0 ≡ slotAt slots frees j
+unfolding slotAt
+slot-out slots frees j h = rw (le-ltb j frees h)
+
+pub ruleset settling = (settle-same, settle-stands, settle-slot, slot-in, slot-out, entries)
+
+-- ---- the four grandchildren
+
+module _ (t : List ℕ) (y i : ℕ) where
+  pub low-kid : {l r : ℕ} (side : Bool) → l ≡ lowAt t i → r ≡ grandchild (lookup t) y side l → isFree t i ≡ false → i < records t → r ≡ grandchild (lookup t) y side (lowOf (lookup t (ref i)))
+  unfolding lowOf
+  low-kid side e p f l = rw (node-of t i l (eqb-false (variableAt t i) 255 f), ← e) p
+
+  pub high-kid : {h r : ℕ} (side : Bool) → h ≡ highAt t i → r ≡ grandchild (lookup t) y side h → isFree t i ≡ false → i < records t → r ≡ grandchild (lookup t) y side (highOf (lookup t (ref i)))
+  unfolding highOf
+  high-kid side e p f l = rw (node-of t i l (eqb-false (variableAt t i) 255 f), ← e) p
+
+-- ---- all names
+
+-- the names are counted in turn, and each loop has room for its own
+module _ {t r : List ℕ} (sized : Sized t r) {l₀ : List ℕ} (none : l₀ ≡ noNames) where
+  pub room-roots : Countable l₀ (2 * rootCount r)
+  room-roots = rw none (countable-less countable-none (omega (arith, sized .few-roots)))
+
+  module _ {l₁ : List ℕ} (roots : l₁ ≡ fold (namedRoot r) l₀ (rootCount r)) where
+    room-after : (n : ℕ) → n ≤ 4 * mostRecords → Countable l₁ n
+    room-after n h = rw (roots, none) (countable-fold (namedRoot r) (root-step r) noNames (rootCount r) n (countable-less countable-none (omega (arith, sized .few-roots))))
+
+    pub room-others : Countable l₁ (2 * records t)
+    room-others = room-after (2 * records t) (omega (arith, sized .few-records))
+
+    module _ (x : ℕ) {l₂ : List ℕ} (others : l₂ ≡ fold (namedOther t x) l₁ (records t)) where
+      pub room-standing : {m : ℕ} → m ≤ records t → Countable l₂ (2 * m)
+      room-standing {m} h = rw others (countable-fold (namedOther t x) (other-step t x) l₁ (records t) (2 * m) (room-after (2 * m + 2 * records t) (omega (arith, sized .few-records))))
+
+      pub named-all : (standing : List ℕ) (m : ℕ) {l₃ : List ℕ} → l₃ ≡ fold (through standing (namedBy t)) l₂ m → l₃ ≡ namesOf t r x standing m
+      unfolding namesOf
+      named-all standing m e = e ∙ rw (others, roots, none)
