@@ -3,64 +3,64 @@
 extern "C" {
     pub fn relay_check(
         table: *const u8,
-        table_len: usize,
+        table_length: usize,
         roots: *const u8,
-        roots_len: usize,
+        roots_length: usize,
         order: *const u8,
-        order_len: usize,
+        order_length: usize,
         answer: *mut u32,
-        answer_len: usize,
+        answer_length: usize,
     ) -> usize;
 
     pub fn relay_read(
         table: *const u8,
-        table_len: usize,
+        table_length: usize,
         roots: *const u8,
-        roots_len: usize,
+        roots_length: usize,
         order: *const u8,
-        order_len: usize,
+        order_length: usize,
         position: u32,
         inputs: *const u8,
-        inputs_len: usize,
+        inputs_length: usize,
         answer: *mut u32,
-        answer_len: usize,
+        answer_length: usize,
     ) -> usize;
 
     pub fn relay_show(
         table: *const u8,
-        table_len: usize,
+        table_length: usize,
         roots: *const u8,
-        roots_len: usize,
+        roots_length: usize,
         order: *const u8,
-        order_len: usize,
+        order_length: usize,
         position: u32,
         answer: *mut u32,
-        answer_len: usize,
+        answer_length: usize,
     ) -> usize;
 
     pub fn relay_swap(
         table: *mut u8,
-        table_len: usize,
+        table_length: usize,
         roots: *const u8,
-        roots_len: usize,
+        roots_length: usize,
         order: *mut u8,
-        order_len: usize,
+        order_length: usize,
         level: u32,
         answer: *mut u32,
-        answer_len: usize,
+        answer_length: usize,
     ) -> usize;
 
     pub fn relay_run(
         table: *mut u8,
-        table_len: usize,
+        table_length: usize,
         roots: *const u8,
-        roots_len: usize,
+        roots_length: usize,
         order: *mut u8,
-        order_len: usize,
+        order_length: usize,
         target: *const u8,
-        target_len: usize,
+        target_length: usize,
         budget: u32,
         answer: *mut u32,
-        answer_len: usize,
+        answer_length: usize,
     ) -> usize;
 }

@@ -5,12 +5,13 @@ use mathlib.Core.List.{List}
 use mathlib.Core.Path.{_≡_, ap, sym, _∙_, fun-ext}
 use native.Mathlib.Omega.{arith}
 use borrow.Author.Needs.{needs}
-use borrow.Author.Tests.{lt-ltb, le-ltb, le-leb, lt-leb, ltb-true, ltb-false}
+use borrow.Author.Tests.{lt-ltb, le-ltb, le-leb, lt-leb, ltb-true}
 use lib.Dec.{ltb, leb}
 use lib.ListN.{length, set}
 use lib.Seq.{set-out}
-use Rattle.lists.specs.First.{first, Passed, first-passed}
+use Rattle.lists.specs.First.{first, Passed, passed-all}
 use Rattle.lists.specs.Fold.{fold}
+use Rattle.diagrams.specs.Node.{no-constant}
 use Rattle.diagrams.specs.Layout.{recordSize, mostRecords, records, rootCount, variableAt, lowAt, highAt, isFree, isUsed, rootAt}
 use Rattle.orders.specs.declared.Order.{Order}
 use Rattle.orders.specs.Permutation.{ceiling, badPlace, levelOf, permutation-if}
@@ -26,9 +27,6 @@ use Rattle.checks.specs.declared.Verdict.the-variants as verdict
 use Rattle.checks.specs.declared.Answer.the-variants.{Accepted, Refused}
 
 -- a reference that is no constant
-pub no-constant : {b : Bool} (x : ℕ) → b ≡ ltb x 2 → b ≡ false → 2 ≤ x
-no-constant x e h = ltb-false x 2 (sym e ∙ h)
-
 module _ (t : List ℕ) (x : ℕ) where
   pub constant-lives : {b : Bool} → b ≡ ltb x 2 → b ≡ true → false ≡ dead t x
   unfolding dead
@@ -103,9 +101,6 @@ table-fits t r o b = let s : length t ≤ recordSize * mostRecords = sizes-if t 
 pub ruleset table = (level-scan, order-fits, table-fits, permutation-if, chain)
 
 -- a place past every one that was looked at: they all passed
-pub passed-all : {x : ℕ} (p : ℕ → Bool) (n : ℕ) → x ≡ first p n → n ≤ x → Passed p n
-passed-all p n e h = record { at = λ k l. first-passed p n .at k (omega arith) }
-
 pub not-bad : {b : Bool} (t r o : List ℕ) → b ≡ badSizes t r o → b ≡ false → badSizes t r o ≡ false
 not-bad t r o e h = sym e ∙ h
 

@@ -24,7 +24,7 @@ pub record Sizes (t r o : List ℕ) : Type 0 where
   pub whole-roots : length r % rootSize ≡ 0
   pub few-roots : rootCount r ≤ mostRoots
 
--- those of a table and its roots alone
+-- what of it a swap asks for
 pub record Sized (t r : List ℕ) : Type 0 where
   pub few-records : length t ≤ recordSize * mostRecords
   pub whole-records : length t % recordSize ≡ 0

@@ -75,6 +75,22 @@ module _ {Terminal : ℕ → Type 0} {L : ℕ → Node} {roots : List ℕ} {inde
     unfolding value
     value-step r e = ap (λ (s : ℕ). eqb s 1) (settled n (suc n) r (inr (used e)) (omega arith) (omega arith) ∙ met-step L inputs n r e)
 
+  -- a reading asks only for inputs from its own level down
+  module _ (inputs others : ℕ → Bool) where
+    met-agrees : (steps r : ℕ) → Vertex Terminal L r → ((v : ℕ) → level index n (L r) ≤ index v → inputs v ≡ others v) → met L inputs steps r ≡ met L others steps r
+    unfolding met
+    met-agrees zero r p e = refl
+    met-agrees (suc steps) r (inl t) e = met-free L inputs (suc steps) r (plain r t) ∙ sym (met-free L others (suc steps) r (plain r t))
+    met-agrees (suc steps) r (inr u) e =
+        met-step L inputs steps r (u .is)
+        ∙ ap (λ (b : Bool). met L inputs steps (pick b (u .low) (u .high))) (e (u .variable) (omega (arith, ap (level index n) (u .is))))
+        ∙ met-agrees steps _ (G .closed r (u .is) (others (u .variable))) (λ v b. e v (omega (arith, child-below plain G r (u .is) (others (u .variable)), ap (level index n) (u .is))))
+        ∙ sym (met-step L others steps r (u .is))
+
+    pub value-agrees : (r : ℕ) → Vertex Terminal L r → ((v : ℕ) → level index n (L r) ≤ index v → inputs v ≡ others v) → value L inputs n r ≡ value L others n r
+    unfolding value
+    value-agrees r p e = ap (λ (s : ℕ). eqb s 1) (met-agrees n r p e)
+
 -- ---- the same sentence with no number of steps in it
 
 module _ {L : ℕ → Node} {inputs : ℕ → Bool} (plain : (r : ℕ) → Constant r → L r ≡ free) where

@@ -1,4 +1,4 @@
--- Storing records: the bytes of one record in its place, and all of them one after the other.
+-- Storing records: the bytes of one record in its place, all of them one after the other, and some of them over all.
 use Prim.Native.Nat.{ℕ, zero, suc, _+_, _*_, _/_, _%_, _≤_, _<_}
 use native.Mathlib.Omega.{arith}
 use mathlib.Core.Bool.{Bool, true, false, cond, _&&_}
@@ -9,7 +9,7 @@ use native.Mathlib.Nat.{not-suc-le-zero, lt-of-not-le}
 use borrow.Author.Tests.{lt-ltb, le-ltb}
 use lib.Dec.{ltb}
 use lib.ListN.{length, take, drop, length-append}
-use lib.Seq.{take-append-add, drop-append-add, take-at, drop-at, drop-drop, length-take-le}
+use lib.Seq.{take-append-add, drop-append-add, take-at, drop-at, drop-drop}
 use Rattle.lists.specs.Fold.{fold}
 use Rattle.lists.specs.Says.{either-side, decided, says-eqb}
 use Rattle.lists.specs.Tabulate.{tabulate, tabulate-agrees, tabulate-snoc}

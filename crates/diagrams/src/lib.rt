@@ -76,6 +76,13 @@ fn pair(s: &[u8], at: usize) -> usize
 }
 
 impl RecordNumber {
+    pub fn reference(self) -> Reference
+        requires { ⌜ self .0 < 65536 ⌝ }
+        ensures { λ r. ⌜ r .0 ≡ self .0 + 2 ⌝ }
+    {
+        Reference(self.0 + 2)
+    }
+
     pub fn variable(self, table: &[u8]) -> Variable
         requires { ⌜ recordSize * self .0 + recordSize ≤ length (now table) ⌝ }
         ensures { λ v. ⌜ (v .0 ≡ variableAt (now (table .entry)) (self .0)) × (v .0 < 256) ⌝ }

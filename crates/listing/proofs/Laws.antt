@@ -1,5 +1,5 @@
 -- Laws of copying a word, over plain variables.
-use Prim.Native.Nat.{ℕ, zero, suc, _+_, _≤_, _<_, zero-le}
+use Prim.Native.Nat.{ℕ, _+_, _≤_, _<_, zero-le}
 use mathlib.Core.Bool.{Bool, true, false, cond}
 use mathlib.Core.List.{List, [], _∷_, _++_, append-assoc, append-nil}
 use mathlib.Core.Path.{_≡_, refl, ap, sym, _∙_}
@@ -10,7 +10,7 @@ use mir.Syntax.{w8}
 use mir.Val.{Fits}
 use lib.ListN.{length, getD, set, take, length-set}
 use lib.Seq.{take-suc, take-suc-set, take-length, length-take-le}
-use Rattle.diagrams.specs.Layout.{records, variableAt, lowAt, highAt, isFree}
+use Rattle.diagrams.specs.Layout.{mostRecords, records, variableAt, lowAt, highAt, isFree}
 use Rattle.listing.specs.Text.{bytes, named, contentText, listing, answerText, isRefused, printed}
 use Rattle.listing.specs.Size.{roomFor, printed-short}
 use Rattle.slices.specs.declared.Slice.{Slice}
@@ -65,7 +65,7 @@ module _ (t : List ℕ) (i : ℕ) where
 
 module _ (a : Slice) (t r o : List ℕ) where
   pub printed-room : {out : List ℕ} → ((k : ℕ) → Fits w8 (getD t k 0)) → ((k : ℕ) → Fits w8 (getD r k 0)) → ((k : ℕ) → Fits w8 (getD o k 0))
-      → (records t ≤ 4096) × (roomFor t r o ≤ length out) → Room out 0 (printed a t r o)
+      → (records t ≤ mostRecords) × (roomFor t r o ≤ length out) → Room out 0 (printed a t r o)
   printed-room bt br bo h =
       record { fits = omega (arith, h .1, printed-short a t r o (record { small = λ k. bt k .fits }) (record { small = λ k. br k .fits }) (record { small = λ k. bo k .fits }) (h .0)) }
 

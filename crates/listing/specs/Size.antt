@@ -3,7 +3,7 @@ use Prim.Native.Nat.{ℕ, zero, suc, _+_, _*_, _-_, _/_, _%_, _^_, _≤_, _<_, z
 use mathlib.Core.Bool.{Bool, true, false, cond}
 use mathlib.Core.List.{List, [], _∷_, _++_}
 use mathlib.Core.Path.{_≡_, refl, ap, sym, _∙_}
-use native.Mathlib.Nat.{le-refl, le-trans, lt-of-lt-of-le, lt-of-le-of-lt, not-suc-le-zero, not-le-of-lt, pow-le-pow-right, mul-suc}
+use native.Mathlib.Nat.{le-refl, le-trans, lt-of-lt-of-le, not-suc-le-zero, not-le-of-lt, pow-le-pow-right, mul-suc}
 use native.Mathlib.Omega.{arith}
 use borrow.Author.Tests.{lt-ltb, le-ltb}
 use lib.Dec.{T, ltb, leb, leb→le, lit<, lit≤}
@@ -11,7 +11,7 @@ use lib.ListN.{length, getD, length-append}
 use Rattle.io.specs.Digits.{digits, Fewest, glyph}
 use Rattle.lists.specs.First.{first, Passed, first-at, first-passed, first-within}
 use Rattle.lists.specs.Says.{either-side, true-false}
-use Rattle.diagrams.specs.Layout.{records, rootCount, variableAt, rootAt, isFree, pairAt}
+use Rattle.diagrams.specs.Layout.{mostRecords, records, rootCount, variableAt, rootAt, isFree, pairAt}
 use Rattle.slices.specs.declared.Slice.{Slice}
 use Rattle.slices.specs.declared.Slice.the-variants.{Done, NoRoom, Paused, Refused}
 use Rattle.listing.specs.Text.{bytes, places, decimal, named, joined, variableText, orderLine, contentText, recordLine, rootText, rootsLine, listing, swapsText, roomText, answerText, isRefused, printed}
@@ -133,7 +133,7 @@ record-short t i b l = both-short (both-short (decimal-short i 3 10000 l tt) (co
 abbrev pub roomFor : List ℕ → List ℕ → List ℕ → ℕ
 roomFor t r o = 159 + 21 * records t + 6 * rootCount r + 4 * length o
 
-listing-short : (t r o : List ℕ) → Bytes t → Bytes r → Bytes o → records t ≤ 4096 → length (listing t r o) ≤ 12 + 21 * records t + 6 * rootCount r + 4 * length o
+listing-short : (t r o : List ℕ) → Bytes t → Bytes r → Bytes o → records t ≤ mostRecords → length (listing t r o) ≤ 12 + 21 * records t + 6 * rootCount r + 4 * length o
 unfolding listing
 listing-short t r o bt br bo h =
     omega (
@@ -166,7 +166,7 @@ unless-short : (b : Bool) (text : List ℕ) → length (cond b [] text) ≤ leng
 unless-short true text = zero-le
 unless-short false text = le-refl (length text)
 
-pub printed-short : (a : Slice) (t r o : List ℕ) → Bytes t → Bytes r → Bytes o → records t ≤ 4096 → length (printed a t r o) ≤ roomFor t r o
+pub printed-short : (a : Slice) (t r o : List ℕ) → Bytes t → Bytes r → Bytes o → records t ≤ mostRecords → length (printed a t r o) ≤ roomFor t r o
 unfolding printed
 printed-short a t r o bt br bo h =
     omega (

@@ -15,7 +15,7 @@ use Rattle.diagrams.specs.Node.{Node, free, node, pick, Constant, ref, look}
 use Rattle.diagrams.specs.Diagram.{Named}
 use Rattle.diagrams.specs.Levels.{free-node}
 use Rattle.one_swap.specs.Record.{lowOf, highOf, isFreeNode, isUsedNode, isOf, same, by, clash, and-left, and-right, and-both, or-cases, true-not, UsedOf, of-true, of-node, of-other, of-free, free-true, says-same, Behind, behind}
-use Rattle.one_swap.specs.Swap.{grandchild, f00, f01, f10, f11, crosses, asked, crossing, stands, isNew, wanted, news, names, dies, slots, slotOf, X, becomes, needed, turn, filled, after}
+use Rattle.one_swap.specs.Swap.{grandchild, f00, f01, f10, f11, crosses, asked, bothAsked, crossing, stands, isNew, wanted, news, names, dies, slots, slotOf, X, becomes, needed, turn, filled, after}
 use Rattle.one_swap.specs.Step.{Rooted, Asked, Open, Kind, kept, crossed, fresh, gone, Made, Step, crosses-x}
 
 -- a table of N records, and slots for the new ones
@@ -187,7 +187,7 @@ module _ {T : ℕ → Node} {N x y : ℕ} {roots : List ℕ} (R : Room T N x y r
   unfolding wanted
   wanted-is w m = go (List·Memᴰ·cases-cons (z .2))
     where
-      z : (i : ℕ) × Mem i (which Crossing N) × Mem w (asked L x y false (ref i) ∷ asked L x y true (ref i) ∷ [])
+      z : (i : ℕ) × Mem i (which Crossing N) × Mem w (bothAsked T N x y roots i)
       z = each-mem _ w _ m
 
       i : ℕ
@@ -219,7 +219,7 @@ module _ {T : ℕ → Node} {N x y : ℕ} {roots : List ℕ} (R : Room T N x y r
       (mem-which Crossing N (m .number) (in-table (m .number) (m .holds)) (rw (m .is) at (s .cross)))
       (go (m .number) (s .side) (rw (s .low-is, s .high-is, asked-is (ref (m .number)) (s .low) (s .high) (s .side) (rw (m .is) at (s .is)))))
     where
-      go : (i : ℕ) (d : Bool) → node x a b ≡ asked L x y d (ref i) → Mem (node x a b) (asked L x y false (ref i) ∷ asked L x y true (ref i) ∷ [])
+      go : (i : ℕ) (d : Bool) → node x a b ≡ asked L x y d (ref i) → Mem (node x a b) (bothAsked T N x y roots i)
       go i true e = List·Memᴰ·tail (List·Memᴰ·head e)
       go i false e = List·Memᴰ·head e
 

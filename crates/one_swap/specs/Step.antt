@@ -1,4 +1,4 @@
--- What a swap does, said reference by reference: no lists, no searching, no record numbers.
+-- What a swap does, said reference by reference: no list of records, no searching, no record numbers.
 -- `L r` is the record that the reference r names before the swap, `L′ r` the one afterwards; `X a b` and `dies` are as document 01 has them.
 use Prim.Native.Nat.{ℕ, _+_, _<_}
 use mathlib.Core.Bool.{Bool, true, false}

@@ -2,7 +2,7 @@
 use Prim.Native.Nat.{ℕ, _+_, _<_}
 use mathlib.Core.Bool.{Bool, true, false, cond}
 use mathlib.Core.List.{List}
-use mathlib.Core.Logic.{_⊎_, inl, inr, ⊎-elim}
+use mathlib.Core.Logic.{inl, inr, ⊎-elim}
 use mathlib.Core.Path.{_≡_, refl, ap, sym, _∙_}
 use lib.ListN.{length, getD}
 use Rattle.lists.specs.Says.{Says}
@@ -10,9 +10,8 @@ use Rattle.diagrams.specs.Node.{Node, free, node, pick, Constant, at, ref, look
 use Rattle.diagrams.specs.Bryant.{Vertex, Bryant}
 use Rattle.diagrams.specs.Diagram.{Named, Diagram}
 use Rattle.diagrams.specs.Reduced.{bryant-of, diagram-of, look-plain}
-use Rattle.diagrams.specs.Value.{value}
 use Rattle.diagrams.specs.Levels.{used, free-node}
-use Rattle.diagrams.specs.Value.{Value}
+use Rattle.diagrams.specs.Value.{value, withInput, Value}
 use Rattle.diagrams.specs.Falls.{value-unique, value-is}
 use Rattle.orders.specs.Permutation.{Permutation, levelOf}
 use Rattle.orders.specs.Exchange.{exchange, length-exchange}
@@ -21,7 +20,7 @@ use Rattle.one_swap.specs.Swap.{xAt, yAt, grandchild, f00, f01, f10, f11
 use Rattle.one_swap.specs.Step.{Rooted, Step, OneSwap, crosses-x}
 use Rattle.one_swap.specs.Stays.{Side, crossed-is, x-lives}
 use Rattle.one_swap.specs.Graph.{swap-again, lasting-named}
-use Rattle.one_swap.specs.Values.{same-value, same-root, side-value}
+use Rattle.one_swap.specs.Values.{same-value, same-root, side-value, side-cofactor}
 use Rattle.one_swap.specs.Plain.{Room, after-kept, dies-y, dying-free, plain-step}
 use Rattle.one_swap.specs.Count.{used-after}
 use Rattle.one_swap.specs.Stored.{exchange-levels, differ, room, swapped-at, swapped-is}
@@ -34,13 +33,15 @@ pub record Unnamed (L L′ : ℕ → Node) (roots : List ℕ) (y r : ℕ) : Type
   pub no-root : Rooted roots r → ⊥
   pub no-record : Named L′ r → ⊥
 
--- the reference r of a crossing record: its function is kept, and the functions of its new children are those of its grandchildren:
--- low is f00 where the input x is 0 and f10 where it is 1, high is f01 and f11
+-- the reference r of a crossing record: its function is kept, and its new children are its cofactors by y: low reads as r does with the
+-- input y 0, high with 1. By the grandchildren: low is f00 where the input x is 0 and f10 where it is 1, high is f01 and f11
 pub record Cofactors (L L′ : ℕ → Node) (n x y r : ℕ) : Type 0 where
   pub low : ℕ
   pub high : ℕ
   pub is : L′ r ≡ node y low high
   pub kept : (inputs : ℕ → Bool) → value L′ inputs n r ≡ value L inputs n r
+  pub low-cofactor : (inputs : ℕ → Bool) → value L′ inputs n low ≡ value L (withInput inputs y false) n r
+  pub high-cofactor : (inputs : ℕ → Bool) → value L′ inputs n high ≡ value L (withInput inputs y true) n r
   pub low-is : (inputs : ℕ → Bool) → value L′ inputs n low ≡ cond (inputs x) (value L inputs n (f10 L y r)) (value L inputs n (f00 L y r))
   pub high-is : (inputs : ℕ → Bool) → value L′ inputs n high ≡ cond (inputs x) (value L inputs n (f11 L y r)) (value L inputs n (f01 L y r))
 
@@ -112,6 +113,8 @@ module _ (t : List Node) (roots ord : List ℕ) (k : ℕ) (P : Permutation ord) 
       high = Side L y (X (at t) (length t) x y roots) true (u .low) (u .high);
       is = crossed-is W r (u .low) (u .high) (u .is) c;
       kept = λ inputs. swap-value inputs r (inr (used (u .is))) (x-lives W r (u .low) (u .high) (u .is));
+      low-cofactor = λ inputs. side-cofactor W inputs false r (u .low) (u .high) (u .is) c;
+      high-cofactor = λ inputs. side-cofactor W inputs true r (u .low) (u .high) (u .is) c;
       low-is = λ inputs. side-value W inputs r (u .low) (u .high) (u .is) c false ∙ low-child inputs (inputs x);
       high-is = λ inputs. side-value W inputs r (u .low) (u .high) (u .is) c true ∙ high-child inputs (inputs x);
     }

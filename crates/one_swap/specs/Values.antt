@@ -5,11 +5,12 @@ use mathlib.Core.Bool.{Bool, true, false}
 use mathlib.Core.List.{List}
 use mathlib.Core.Logic.{_⊎_, inl, inr}
 use mathlib.Core.Path.{_≡_, refl, ap, sym, _∙_}
+use borrow.Author.Tests.{eq-eqb, ne-eqb}
 use Rattle.diagrams.specs.Node.{Node, node, pick}
 use Rattle.diagrams.specs.Bryant.{Vertex}
-use Rattle.diagrams.specs.Value.{value}
+use Rattle.diagrams.specs.Value.{value, withInput}
 use Rattle.diagrams.specs.Levels.{level, free-node}
-use Rattle.diagrams.specs.Falls.{value-terminal, value-step}
+use Rattle.diagrams.specs.Falls.{value-terminal, value-step, value-agrees}
 use Rattle.one_swap.specs.Record.{isOf, UsedOf, of-true, by, clash}
 use Rattle.one_swap.specs.Swap.{grandchild, crosses}
 use Rattle.one_swap.specs.Step.{Rooted, Asked, Kind, kept, crossed, fresh, gone, Made, OneSwap, grand-of, grand-self, pick-grand}
@@ -93,3 +94,34 @@ module _ {Terminal : ℕ → Type 0} {L L′ : ℕ → Node} {roots : List ℕ} 
   side-value q l h e t d =
       let g : Deep W (grandchild L y d (pick (inputs x) l h)) = deep-grand W q l h e (inputs x) d in
       X-value _ _ (asks W q l h e t d) ∙ ap V₁ (pick-grand L y (inputs x) d l h) ∙ same-value _ (g .0) (deep-lives W _ g)
+
+-- ---- the children of a crossed record are its cofactors by y
+
+module _ {Terminal : ℕ → Type 0} {L L′ : ℕ → Node} {roots : List ℕ} {index index′ : ℕ → ℕ} {n k x y : ℕ} {X : ℕ → ℕ → ℕ} {dies : ℕ → Bool}
+    (W : OneSwap Terminal L L′ roots index index′ n k x y X dies) (inputs : ℕ → Bool) (d : Bool) where
+  abbrev fixed : ℕ → Bool
+  fixed = withInput inputs y d
+
+  fixed-y : fixed y ≡ d
+  unfolding withInput
+  fixed-y = rw (eq-eqb y y refl)
+
+  fixed-other : (v : ℕ) → (v ≡ y → ⊥) → fixed v ≡ inputs v
+  unfolding withInput
+  fixed-other v z = rw (ne-eqb v y z)
+
+  fixed-x : fixed x ≡ inputs x
+  fixed-x = fixed-other x (λ z. omega (arith, W .levels .index-x, W .levels .index-y, ap index z))
+
+  -- below y its input isn't asked for
+  deep-fixed : (r : ℕ) → Deep W r → value L inputs n r ≡ value L fixed n r
+  deep-fixed r g = value-agrees (W .plain) (W .before .graph) inputs fixed r (g .0) (λ v b. sym (fixed-other v (λ z. omega (arith, g .1, W .levels .index-y, ap index z))))
+
+  pub side-cofactor : (q l h : ℕ) → L q ≡ node x l h → crosses L x y q ≡ true → value L′ inputs n (Side L y X d l h) ≡ value L fixed n q
+  side-cofactor q l h e t =
+      side-value W inputs q l h e t d
+      ∙ deep-fixed (grandchild L y d (pick (inputs x) l h)) (deep-grand W q l h e (inputs x) d)
+      ∙ ap (λ (c : Bool). value L fixed n (grandchild L y c (pick (inputs x) l h))) (sym fixed-y)
+      ∙ grand-value W fixed (pick (inputs x) l h)
+      ∙ ap (λ (c : Bool). value L fixed n (pick c l h)) (sym fixed-x)
+      ∙ sym (value-step (W .plain) (W .before .graph) fixed q e)

@@ -35,12 +35,14 @@ unfoldable pub reached : Plan → List ℕ → ℕ → List ℕ → List ℕ
 reached plan g zero o = o
 reached plan g (suc m) o = reached plan g m (exchange o (plan o g))
 
--- "Take the level k nearest the top (the smallest k) where order and target differ, find the target's variable of that
--- level at level p, and swap levels p-1 and p."
+-- "Take the level k nearest the top (the smallest k) where order and target differ,
+unfoldable pub nearest : List ℕ → List ℕ → ℕ
+nearest o g = first (differsAt o g) (length o)
+
+-- find the target's variable of that level at level p, and swap levels p-1 and p."
 unfoldable pub bringUp : Plan
 bringUp o g =
-    let k = first (differsAt o g) (length o) in
-    let p = levelOf o (getD g k 0) in
+    let p = levelOf o (getD g (nearest o g) 0) in
     p - 1
 
 -- ---- order equals target where they differ at no level
@@ -62,7 +64,7 @@ same-says o g e = record {
     nowhere : Says (not (any (differsAt o g) (length o))) (Some (λ k. getD o k 0 ≡ getD g k 0 → ⊥) (length o) → ⊥)
     nowhere = search (says, differs-says)
 
--- ---- Bring Up names a level of the order, whatever the target is
+-- ---- Bring Up names no level past the end of the order, whatever the target is
 
 pub bring-up-within : (o g : List ℕ) → bringUp o g ≤ length o
 unfolding bringUp
@@ -73,21 +75,21 @@ bring-up-within o g = le-trans (sub-le _ 1) (level-within o _)
 module _ (o g : List ℕ) (h : Permutation o) (i : Permutation g) (e : length o ≡ length g) (d : o ≡ g → ⊥) where
   -- the level nearest the top where order and target differ
   k : ℕ
-  k = first (differsAt o g) (length o)
+  k = nearest o g
 
   -- where the order has the target's variable of that level
   p : ℕ
   p = levelOf o (getD g k 0)
 
   agree : (j : ℕ) → j < k → getD o j 0 ≡ getD g j 0
-  unfolding k
+  unfolding k nearest
   agree j l = level-same o g j (first-passed (differsAt o g) (length o) .at j l)
 
   k-inside : k < length o
   k-inside = either-side k (length o) (λ l. l) (λ l. absurd (d (ext-getD 0 o g e (λ j m. agree j (omega arith)))))
 
   differ : getD o k 0 ≡ getD g k 0 → ⊥
-  unfolding k
+  unfolding k nearest
   differ = differs-says o g (first (differsAt o g) (length o)) .yes (first-holds (differsAt o g) (length o) k-inside)
 
   p-inside : p < length o
@@ -140,7 +142,7 @@ module _ (o g : List ℕ) (h : Permutation o) (i : Permutation g) (e : length o 
   brings-up = record { within = omega (arith, p-inside, p-below); inversion = rw target-level above-below }
 
   -- that level isn't the top one
-  pub bring-up-below : 0 < levelOf o (getD g (first (differsAt o g) (length o)) 0)
+  pub bring-up-below : 0 < levelOf o (getD g (nearest o g) 0)
   unfolding k p
   bring-up-below = omega (arith, p-below)
 

@@ -1,32 +1,25 @@
 -- One law for each way out of a function, over plain variables: its premises are what is known there.
-use Prim.Native.Nat.{ℕ, zero, suc, _+_, _-_, _*_, _≤_, _<_}
-use mathlib.Core.Bool.{Bool, true, false, cond, _&&_}
-use mathlib.Core.List.{List, [], _∷_, _++_}
-use mathlib.Core.Logic.{inl, inr}
+use Prim.Native.Nat.{ℕ, zero, suc, _-_, _≤_, _<_}
+use mathlib.Core.Bool.{Bool, true, false}
+use mathlib.Core.List.{List, []}
 use mathlib.Core.Path.{_≡_, refl, ap, sym, _∙_}
-use native.Mathlib.Nat.{lt-of-not-le}
 use native.Mathlib.Numerals.{sub-one}
 use native.Mathlib.Omega.{arith}
 use borrow.Author.Needs.{needs}
-use borrow.Author.Tests.{eq-eqb, eqb-true, eqb-false, le-leb, lt-leb, ltb-true, ltb-false}
-use lib.Dec.{eqb, ltb, leb}
-use lib.ListN.{length, getD, List·getD-eq-default}
-use Rattle.lists.specs.Says.{nowhere}
+use borrow.Author.Tests.{eqb-true, eqb-false, le-leb, lt-leb, ltb-true}
+use lib.Dec.{eqb, ltb}
+use lib.ListN.{length, List·getD-eq-default}
 use Rattle.lists.specs.Count.{bit}
-use Rattle.diagrams.specs.Layout.{recordSize, records, rootCount, variableAt, lowAt, highAt, isFree, rootAt}
-use Rattle.diagrams.specs.Node.{Node, free, node, pick, at, ref, look}
-use Rattle.diagrams.specs.Decode.{Used, decode}
+use Rattle.diagrams.specs.Layout.{records, rootCount, variableAt, lowAt, highAt, isFree, rootAt}
+use Rattle.diagrams.specs.Node.{no-constant, free, pick, at, ref}
+use Rattle.diagrams.specs.Decode.{decode}
 use Rattle.diagrams.specs.Lookup.{lookup, node-of, free-of, past-of}
 use Rattle.diagrams.specs.Reduced.{look-plain}
 use Rattle.diagrams.specs.Value.{chosen, met, value}
 use Rattle.diagrams.specs.Falls.{value-terminal}
-use Rattle.checks.specs.Stages.{judge, clear-only, row-refuses, row-passes, place-refuses, place-passes, chain}
-use Rattle.checks.specs.Check.{checkStages}
-use Rattle.checks.specs.Meaning.{root-says}
-use Rattle.checks.specs.Usable.{passes-all}
-use Rattle.checks.specs.declared.Verdict.{Verdict}
+use Rattle.checks.specs.Stages.{judge, row-refuses, row-passes, chain}
 use Rattle.checks.specs.declared.Verdict.the-variants as verdict
-use Rattle.reading.specs.Read.{inputOf, noRoot, badInputs, readStages, rootValue, readAfter, readOf}
+use Rattle.reading.specs.Read.{inputOf, noRoot, readStages, rootValue, readAfter, readOf}
 use Rattle.reading.specs.Parts.{refused-part, no-root-part, constant-part, record-part, root-inside}
 use Rattle.reading.specs.declared.Reading.the-variants.{Value, Refused}
 
@@ -37,9 +30,6 @@ unfolding inputOf
 input-past inputs v h = rw (List·getD-eq-default inputs 0 h)
 
 -- ---- the child that is taken
-
-pub no-constant : {b : Bool} (x : ℕ) → b ≡ ltb x 2 → b ≡ false → 2 ≤ x
-no-constant x e h = ltb-false x 2 (sym e ∙ h)
 
 module _ (t : List ℕ) (inputs : ℕ → Bool) where
   stays : (x : ℕ) → lookup t x ≡ free → x ≡ chosen inputs (lookup t x) x

@@ -1,13 +1,13 @@
 -- When Show hands back an empty part, and which part otherwise.
-use Prim.Native.Nat.{ℕ, zero, suc, _+_, _-_, _*_, _≤_, _<_}
-use mathlib.Core.Bool.{Bool, true, false, cond, _&&_}
-use mathlib.Core.List.{List, [], _∷_, _++_}
-use mathlib.Core.Logic.{_⊎_, inl, inr, ⊎-elim}
+use Prim.Native.Nat.{ℕ, _+_, _-_, _*_, _≤_, _<_}
+use mathlib.Core.Bool.{Bool, true, false}
+use mathlib.Core.List.{List, []}
+use mathlib.Core.Logic.{inl}
 use mathlib.Core.Path.{_≡_, refl, ap, sym, _∙_}
 use native.Mathlib.Nat.{lt-of-not-le}
 use native.Mathlib.Omega.{arith}
 use borrow.Author.Tests.{lt-ltb, le-ltb, le-leb, lt-leb, ltb-true, ltb-false}
-use lib.Dec.{ltb, leb}
+use lib.Dec.{ltb}
 use lib.ListN.{length, take, drop, length-drop}
 use lib.Seq.{length-take-le}
 use Rattle.lists.specs.Says.{nowhere, either-side}
@@ -23,7 +23,7 @@ use Rattle.checks.specs.declared.Verdict.the-variants as verdict
 use Rattle.checks.specs.declared.Answer.the-variants as answer
 use Rattle.reading.specs.Read.{noRoot}
 use Rattle.reading.specs.declared.Part.{Part}
-use Rattle.reading.specs.Show.{showStages, isClear, shows, noPart, partAt, partOf, ShowOutcome}
+use Rattle.reading.specs.Show.{showStages, shows, noPart, partAt, partOf, ShowOutcome}
 
 module _ (t r o : List ℕ) (position : ℕ) {v : Verdict} (judged : v ≡ judge (checkStages t r o)) where
   shows-not : {k x : ℕ} → verdict.Refused k x ≡ judge (showStages t r o position) → noPart ≡ partOf t r o position

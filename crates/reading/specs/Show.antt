@@ -5,8 +5,8 @@ use mathlib.Core.Bool.{Bool, true, false, cond, _&&_}
 use mathlib.Core.List.{List, [], _∷_, _++_}
 use mathlib.Core.Path.{_≡_}
 use lib.Dec.{leb}
-use lib.ListN.{length, take, drop}
-use Rattle.diagrams.specs.Layout.{recordSize, rootCount, rootAt}
+use lib.ListN.{take, drop}
+use Rattle.diagrams.specs.Layout.{recordSize, rootAt}
 use Rattle.checks.specs.Stages.{Stage, stageAt, judge}
 use Rattle.checks.specs.Check.{checkStages}
 use Rattle.checks.specs.declared.Verdict.{Verdict}

@@ -1,37 +1,31 @@
 -- What Read and Show answer, and when.
-use Prim.Native.Nat.{ℕ, _+_, _-_, _*_, _≤_, _<_}
-use mathlib.Core.Bool.{Bool, true, false, cond}
-use mathlib.Core.List.{List, [], _∷_, _++_}
-use mathlib.Core.Logic.{_⊎_, inl, inr, ⊎-elim}
+use Prim.Native.Nat.{ℕ, _≤_, _<_}
+use mathlib.Core.Bool.{Bool, false}
+use mathlib.Core.List.{List, [], _∷_}
 use mathlib.Core.Path.{_≡_, refl, ap, sym, _∙_}
 use native.Mathlib.Omega.{arith}
-use borrow.Author.Tests.{le-leb, lt-leb, leb-true, leb-false}
-use lib.Dec.{leb}
-use lib.ListN.{length, getD, take, drop, length-drop}
-use lib.Seq.{length-take-le}
+use borrow.Author.Tests.{lt-leb}
+use lib.ListN.{length}
 use Rattle.lists.specs.Count.{bit}
-use Rattle.lists.specs.Says.{either-side}
-use Rattle.orders.specs.Permutation.{levelOf}
-use Rattle.diagrams.specs.Layout.{recordSize, mostRecords, records, rootCount, rootAt}
+use Rattle.diagrams.specs.Layout.{mostRecords, rootCount, rootAt}
 use Rattle.diagrams.specs.Node.{Constant, at}
 use Rattle.diagrams.specs.Decode.{decode}
-use Rattle.diagrams.specs.Lookup.{lookup, rootsOf, length-roots, root-is}
+use Rattle.diagrams.specs.Lookup.{lookup, length-roots, root-is}
 use Rattle.diagrams.specs.Bryant.{Vertex}
 use Rattle.diagrams.specs.Reduced.{look-plain}
 use Rattle.diagrams.specs.Value.{met, value, Value}
 use Rattle.diagrams.specs.Falls.{meets-terminal, value-is}
-use Rattle.checks.specs.Stages.{Stage, stageAt, judge, FailsFirst, AllPass, none, also, only-passed, clear-if, clear-only, refused-if, refused-only, row-passes, place-passes}
-use Rattle.checks.specs.Check.{checkStages, checkOf, answered, used}
+use Rattle.checks.specs.Stages.{stageAt, judge, FailsFirst, none, also, only-passed, clear-if, refused-if, refused-only, row-passes}
+use Rattle.checks.specs.Check.{checkStages}
 use Rattle.checks.specs.Theorems.{Bounded, refusal-small}
 use Rattle.checks.specs.Usable.{Usable, usable-then, all-pass}
 use Rattle.checks.specs.declared.Verdict.{Verdict}
 use Rattle.checks.specs.declared.Verdict.the-variants as verdict
 use Rattle.checks.specs.declared.Answer.the-variants as answer
 use Rattle.reading.specs.Read.{inputOf, noRoot, badInputs, readStages, rootValue, readAfter, readOf, ReadOutcome}
-use Rattle.reading.specs.Show.{isClear, showStages, shows, partAt, noPart, partOf, ShowOutcome}
+use Rattle.reading.specs.Show.{ShowOutcome}
 use Rattle.reading.specs.declared.Reading.{Reading}
 use Rattle.reading.specs.declared.Reading.the-variants as reading
-use Rattle.reading.specs.declared.Part.{Part}
 
 -- ---- in a table that the relay can use, the reading of a root meets a constant, for every combination of inputs
 

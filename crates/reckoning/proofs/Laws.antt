@@ -5,7 +5,7 @@ use mathlib.Core.List.{List}
 use mathlib.Core.Path.{_≡_, refl, ap, sym, _∙_}
 use native.Mathlib.Omega.{arith}
 use borrow.Author.Needs.{needs}
-use borrow.Author.Tests.{eq-eqb, ne-eqb, lt-ltb, le-ltb, eqb-true, eqb-false, ltb-true, ltb-false}
+use borrow.Author.Tests.{eq-eqb, ne-eqb, lt-ltb, le-ltb, eqb-true, eqb-false, ltb-true}
 use lib.Dec.{eqb, ltb}
 use lib.ListN.{length, getD, set}
 use lib.Seq.{set-out}
@@ -15,32 +15,24 @@ use Rattle.lists.specs.Entries.{through}
 use Rattle.lists.specs.Fold.{fold, Steps}
 use Rattle.lists.specs.Which.{which-agrees}
 use Rattle.diagrams.specs.Layout.{recordSize, mostRecords, records, rootCount, rootAt, variableAt, lowAt, highAt, isFree, isUsed}
-use Rattle.diagrams.specs.Node.{Node, free, node, pick, at, ref}
+use Rattle.diagrams.specs.Node.{no-constant, free, pick, at, ref}
 use Rattle.diagrams.specs.Decode.{decode}
 use Rattle.diagrams.specs.Lookup.{lookup, node-of, free-of, past-of, Stored, record-at, stored}
 use Rattle.diagrams.specs.Reduced.{look-plain}
 use Rattle.checks.specs.Meaning.{Sized}
-use Rattle.one_swap.specs.Record.{lowOf, highOf, isOf, UsedOf, of-true}
+use Rattle.one_swap.specs.Record.{lowOf, highOf, isOf, of-true}
 use Rattle.one_swap.specs.Swap.{grandchild, f00, f01, f10, f11, crosses}
 use Rattle.reckoning.specs.Grands.{Grands}
 use Rattle.reckoning.specs.declared.kinds.Grandchildren.{Grandchildren}
 use Rattle.reckoning.specs.Reckoning.{crossesAt, standsAt, News, matchesAt, newAt, notePair, noteCrossing, slotAt, settledAt, named, namedRoot, namedBy, namedOther, noNames, namesOf}
 use Rattle.reckoning.specs.Inside.{entries}
-use Rattle.reckoning.specs.Naming.{Countable, countable-none, countable-less, countable-named, countable-fold, root-step, other-step}
-
-pub no-constant : {b : Bool} (x : ℕ) → b ≡ ltb x 2 → b ≡ false → 2 ≤ x
-no-constant x e h = ltb-false x 2 (sym e ∙ h)
+use Rattle.reckoning.specs.Naming.{of-is, Countable, countable-none, countable-less, countable-named, countable-fold, root-step, other-step}
 
 -- ---- a used record of a variable
 
 module _ (t : List ℕ) (v : ℕ) where
-  used-of : (i : ℕ) (f : Bool) → isFree t i ≡ f → i < records t → (not f && eqb (variableAt t i) v) ≡ isOf v (lookup t (ref i))
-  unfolding isOf
-  used-of i true q l = rw (free-of t i l (eqb-true (variableAt t i) 255 q))
-  used-of i false q l = rw (node-of t i l (eqb-false (variableAt t i) 255 q))
-
   pub record-of : (i : ℕ) {u : Bool} {w : ℕ} → u ≡ isUsed t i → w ≡ variableAt t i → i < records t → (u && eqb w v) ≡ isOf v (lookup t (ref i))
-  record-of i e p l = rw (e, p) (used-of i (isFree t i) refl l)
+  record-of i e p l = rw (e, p) (sym (of-is t v i l))
 
   none-of : (x : ℕ) → lookup t x ≡ free → false ≡ isOf v (lookup t x)
   unfolding isOf
@@ -107,10 +99,6 @@ pub ruleset grand = (named-two, named-there, grand-self, grand-high, grand-low, 
 -- ---- what is named
 
 module _ (l : List ℕ) (q : ℕ) where
-  -- the count of one reference has room
-  pub count-fits : {v : ℕ} → Countable l 1 → v ≡ getD l q 0 → v + 1 < 65536
-  count-fits c e = omega (arith, c .at q)
-
   pub name-counts : {v : ℕ} → v ≡ getD l q 0 → set l q (v + 1) ≡ named l q
   unfolding named
   name-counts e = rw e
@@ -126,10 +114,7 @@ module _ (t l : List ℕ) (i : ℕ) where
 pub root-counts : (r l : List ℕ) (k : ℕ) {x : ℕ} {l₁ : List ℕ} → x ≡ rootAt r k → l₁ ≡ named l x → l₁ ≡ namedRoot r l k
 root-counts r l k p q = cc
 
-pub entry-counts : (t standing l : List ℕ) (k : ℕ) {i : ℕ} {l₁ : List ℕ} → i ≡ getD standing k 0 → l₁ ≡ namedBy t l i → l₁ ≡ through standing (namedBy t) l k
-entry-counts t standing l k p q = rw (← p) q
-
-pub ruleset counting = (both-counts, root-counts, entry-counts, count-fits, name-counts, name-passes, countable-less, countable-named, needs)
+pub ruleset counting = (both-counts, name-counts, name-passes, countable-less, countable-named, needs)
 
 module _ (t l : List ℕ) (x i : ℕ) where
   other : (u b : Bool) → u ≡ isUsed t i → b ≡ isOf x (lookup t (ref i)) → (isUsed t i && not (isOf x (lookup t (ref i)))) ≡ (u && not b)
@@ -192,8 +177,6 @@ module _ (t standing : List ℕ) (count : ℕ) (l : List ℕ) (n a b : ℕ) wher
       unfolding notePair
       note-new h = rw (ne-eqb a b ne, none, le-ltb (first (newAt l a b) n) n (rw found at h))
 
-pub ruleset noting = (note-same, note-stands, note-known, note-new, entries)
-
 -- a crossing record, low before high
 pub crossing-notes : (t standing : List ℕ) (y count i : ℕ) (p : News) {g : Grandchildren} {p₁ p₂ : News} → Grands t y i g
     → p₁ ≡ notePair t standing count p (g .f00 .0) (g .f10 .0) → p₂ ≡ notePair t standing count p₁ (g .f01 .0) (g .f11 .0) → p₂ ≡ noteCrossing t y standing count p i
@@ -207,13 +190,13 @@ module _ (t standing : List ℕ) (count : ℕ) (l : List ℕ) (n : ℕ) (slots :
   settle-same e = rw (eq-eqb a b e)
 
   module _ {k : ℕ} (at : k ≡ first (matchesAt t standing a b) count) (ne : a ≡ b → ⊥) where
-    pub settle-stands : {v : ℕ} → v ≡ getD standing k 0 → k < count → v + 2 ≡ settledAt t standing count (newsOf t standing count l n a b) slots frees a b
+    pub settle-stands : {v w : ℕ} → v ≡ getD standing k 0 → w ≡ v + 2 → k < count → w ≡ settledAt t standing count (newsOf t standing count l n a b) slots frees a b
     unfolding settledAt
-    settle-stands e h = rw (ne-eqb a b ne, lt-ltb (first (matchesAt t standing a b) count) count (rw at at h), ← at, e)
+    settle-stands e q h = q ∙ rw (ne-eqb a b ne, lt-ltb (first (matchesAt t standing a b) count) count (rw at at h), ← at, e)
 
-    pub settle-slot : {j v : ℕ} → j ≡ first (newAt l a b) n → v ≡ slotAt slots frees j → count ≤ k → v + 2 ≡ settledAt t standing count (newsOf t standing count l n a b) slots frees a b
+    pub settle-slot : {j v w : ℕ} → j ≡ first (newAt l a b) n → v ≡ slotAt slots frees j → w ≡ v + 2 → count ≤ k → w ≡ settledAt t standing count (newsOf t standing count l n a b) slots frees a b
     unfolding settledAt
-    settle-slot e p h = rw (ne-eqb a b ne, le-ltb (first (matchesAt t standing a b) count) count (rw at at h), ← e, p)
+    settle-slot e p q h = q ∙ rw (ne-eqb a b ne, le-ltb (first (matchesAt t standing a b) count) count (rw at at h), ← e, p)
 
 pub slot-in : (slots : List ℕ) (frees j : ℕ) {v : ℕ} → v ≡ getD slots j 0 → j < frees → v ≡ slotAt slots frees j
 unfolding slotAt

@@ -15,7 +15,8 @@ use Rattle.diagrams.specs.Node.{ref}
 use Rattle.diagrams.specs.Lookup.{lookup, free-of}
 use Rattle.one_swap.specs.Record.{isOf}
 use Rattle.one_swap.specs.Swap.{crosses}
-use Rattle.reckoning.specs.Reckoning.{crossesAt}
+use Rattle.reckoning.specs.Reckoning.{crossesAt, standsAt}
+use Rattle.reckoning.specs.declared.collect.Split.{Split}
 
 -- the first `count` entries are numbers of records of the table
 pub record Inside (t list : List ℕ) (count : ℕ) : Type 0 where
@@ -42,6 +43,10 @@ inside-wider t i h = record { room = i .room; at = λ k l. omega (arith, i .at k
 pub inside-fewer : {t list : List ℕ} {count m : ℕ} → Inside t list count → m ≤ count → Inside t list m
 inside-fewer i h = record { room = omega (arith, i .room); at = λ k l. i .at k (omega arith) }
 
+-- ---- the x records, split into those that cross and those that stand
+abbrev pub Splits : List ℕ → ℕ → ℕ → List ℕ → List ℕ → Split → Type 0
+Splits t x y crossing standing s = Collected (crossesAt t x y) (records t) crossing (s .crossing) × Collected (standsAt t x y) (records t) standing (s .standing)
+
 -- ---- a list of the records that pass
 
 pub inside-of : {t list : List ℕ} {k : ℕ} {p : ℕ → Bool} → Collected p (records t) list k → Inside t list k
@@ -54,7 +59,7 @@ module _ (t : List ℕ) (x y i : ℕ) where
   crossing-not true q e l = let z : false ≡ true = rw (free-of t i l (eqb-true (variableAt t i) 255 q)) at e in true-false (sym z)
   crossing-not false q e l = refl
 
-  pub crossing-used : crosses (lookup t) x y (ref i) ≡ true → i < records t → isFree t i ≡ false
+  crossing-used : crosses (lookup t) x y (ref i) ≡ true → i < records t → isFree t i ≡ false
   crossing-used e l = crossing-not (isFree t i) refl e l
 
 pub in-use : (t : List ℕ) (x y : ℕ) {list : List ℕ} {k : ℕ} → Collected (crossesAt t x y) (records t) list k → InUse t list k

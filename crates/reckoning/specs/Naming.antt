@@ -3,7 +3,7 @@ use Prim.Native.Nat.{ℕ, zero, suc, _+_, _*_, _≤_, _<_}
 use mathlib.Core.Bool.{Bool, true, false, cond, not, _&&_, _||_}
 use mathlib.Core.List.{List}
 use mathlib.Core.Logic.{⊎-elim}
-use mathlib.Core.Path.{_≡_, refl, ap, ap₂, sym, _∙_}
+use mathlib.Core.Path.{_≡_, refl, ap, sym, _∙_}
 use native.Mathlib.Omega.{arith}
 use borrow.Author.Tests.{eqb-true, eqb-false, ne-eqb}
 use lib.Dec.{eqb, ltb}
@@ -11,19 +11,18 @@ use lib.ListN.{length, getD, set, length-set, List·getD-eq-default}
 use lib.Seq.{getD-set-same, getD-set-other}
 use Rattle.lists.specs.Collect.{Collected}
 use Rattle.lists.specs.Entries.{through, fold-entries}
-use Rattle.lists.specs.First.{first, any, any-or, first-agrees}
+use Rattle.lists.specs.First.{any, any-or, first-agrees}
 use Rattle.lists.specs.Fold.{fold}
 use Rattle.lists.specs.Says.{decided, either-side, says-eqb}
 use Rattle.diagrams.specs.Layout.{mostRecords, records, rootCount, rootAt, variableAt, lowAt, highAt, isFree, isUsed}
-use Rattle.diagrams.specs.Node.{free, node, at, ref, look}
+use Rattle.diagrams.specs.Node.{free, node, at, ref, two-more, look}
 use Rattle.diagrams.specs.Decode.{nodeAt, decode}
-use Rattle.diagrams.specs.Lookup.{lookup, rootsOf, length-roots, root-is}
+use Rattle.diagrams.specs.Lookup.{lookup, at-decode, rootsOf, length-roots, root-is}
 use Rattle.checks.specs.Tests.{rootNames}
-use Rattle.checks.specs.Marks.{or-false, or-assoc, fold-long, fold-names, length-no-marks, none-marked}
+use Rattle.checks.specs.Marks.{or-true, or-false, or-assoc, roots-long, roots-has, records-long, records-has, length-no-marks, none-marked}
 use Rattle.one_swap.specs.Record.{lowOf, highOf, isFreeNode, isOf}
 use Rattle.one_swap.specs.Swap.{crosses, names, dies}
 use Rattle.reckoning.specs.Reckoning.{ofAt, crossesAt, standsAt, named, namedRoot, namedBy, namedOther, noNames, namesOf, unnamed}
-use Rattle.reckoning.specs.Noting.{at-is}
 
 -- ---- room in 16 bits for n names more, of any reference
 
@@ -49,7 +48,7 @@ named-small l y q = ⊎-elim here (λ d. omega (arith, getD-set-other l y q (get
 pub countable-named : {l : List ℕ} {n : ℕ} (y : ℕ) → Countable l (n + 1) → Countable (named l y) n
 countable-named {l} {n} y c = record { at = λ q. omega (arith, named-small l y q, c .at q) }
 
-pub countable-both : {l : List ℕ} {n : ℕ} (t : List ℕ) (i : ℕ) → Countable l (n + 2) → Countable (namedBy t l i) n
+countable-both : {l : List ℕ} {n : ℕ} (t : List ℕ) (i : ℕ) → Countable l (n + 2) → Countable (namedBy t l i) n
 countable-both t i c = countable-named (highAt t i) (countable-named (lowAt t i) (countable-less c (omega arith)))
 
 -- steps of at most two names each
@@ -88,10 +87,6 @@ name-long : (l : List ℕ) (y : ℕ) → length (named l y) ≡ length l
 unfolding named
 name-long l y = simp length-set
 
-or-true : (a : Bool) → true ≡ (a || true)
-or-true true = refl
-or-true false = refl
-
 name-has : (l : List ℕ) (y q : ℕ) → q < length l → has (named l y) q ≡ (has l q || eqb y q)
 unfolding named
 name-has l y q h = go (eqb y q) refl
@@ -100,50 +95,15 @@ name-has l y q h = go (eqb y q) refl
     go true e = let p : y ≡ q = eqb-true y q e in rw (p, getD-set-same l q (getD l q 0 + 1) 0 h, ne-eqb (getD l q 0 + 1) 0 (λ z. omega arith)) (or-true (has l q))
     go false e = rw (getD-set-other l y q (getD l y 0 + 1) 0 (λ z. eqb-false y q e (sym z))) (or-false (has l q))
 
-root-long : (r l : List ℕ) (k : ℕ) → length (namedRoot r l k) ≡ length l
-root-long r l k = name-long l (rootAt r k)
-
-root-has : (r l : List ℕ) (k q : ℕ) → q < length l → has (namedRoot r l k) q ≡ (has l q || rootNames r q k)
-unfolding rootNames
-root-has r l k q h = name-has l (rootAt r k) q h
-
 -- record i names q
 abbrev says : List ℕ → ℕ → ℕ → Bool
 says t q i = eqb (lowAt t i) q || eqb (highAt t i) q
 
--- the records that pass
-module _ (t : List ℕ) (p : ℕ → Bool) where
-  abbrev gated : List ℕ → ℕ → List ℕ
-  gated l i = cond (p i) (namedBy t l i) l
-
-  gated-long : (l : List ℕ) (i : ℕ) → length (gated l i) ≡ length l
-  gated-long l i = go (p i)
-    where
-      go : (b : Bool) → length (cond b (namedBy t l i) l) ≡ length l
-      go true = name-long (named l (lowAt t i)) (highAt t i) ∙ name-long l (lowAt t i)
-      go false = refl
-
-  gated-has : (l : List ℕ) (i q : ℕ) → q < length l → has (gated l i) q ≡ (has l q || (p i && says t q i))
-  gated-has l i q h = go (p i)
-    where
-      go : (b : Bool) → has (cond b (namedBy t l i) l) q ≡ (has l q || (b && says t q i))
-      go true =
-          name-has (named l (lowAt t i)) (highAt t i) q (rw (name-long l (lowAt t i)) h)
-          ∙ ap (λ b. b || eqb (highAt t i) q) (name-has l (lowAt t i) q h)
-          ∙ or-assoc (has l q) (eqb (lowAt t i) q) (eqb (highAt t i) q)
-      go false = or-false (has l q)
-
-  gated-fold : (l : List ℕ) (n : ℕ) → length (fold gated l n) ≡ length l
-  gated-fold l n = fold-long has gated (λ x i. p i && says t x i) gated-long gated-has l n
-
-  fold-has : (l : List ℕ) (n q : ℕ) → q < length l → has (fold gated l n) q ≡ (has l q || any (λ i. p i && says t q i) n)
-  fold-has l n q h = fold-names has gated (λ x i. p i && says t x i) gated-long gated-has l n q h
-
 -- ---- the records that stay as they are
 
-of-is : (t : List ℕ) (v i : ℕ) → i < records t → ofAt t v i ≡ (isUsed t i && eqb (variableAt t i) v)
+pub of-is : (t : List ℕ) (v i : ℕ) → i < records t → ofAt t v i ≡ (isUsed t i && eqb (variableAt t i) v)
 unfolding look nodeAt isOf
-of-is t v i h = rw (at-is t i h) (go (isFree t i))
+of-is t v i h = rw (at-decode t i h) (go (isFree t i))
   where
     go : (u : Bool) → isOf v (cond u free (node (variableAt t i) (lowAt t i) (highAt t i))) ≡ (not u && eqb (variableAt t i) v)
     go true = refl
@@ -168,7 +128,7 @@ module _ (t : List ℕ) (x y : ℕ) where
 
   names-is : (roots : List ℕ) (q j : ℕ) → j < records t → names (at (decode t)) (records t) x y roots q j ≡ keeps t x y q j
   unfolding names nodeAt isFreeNode lowOf highOf
-  names-is roots q j h = rw (at-is t j h) (go (isFree t j))
+  names-is roots q j h = rw (at-decode t j h) (go (isFree t j))
     where
       go : (u : Bool) → (not (isFreeNode (cond u free (node (variableAt t j) (lowAt t j) (highAt t j)))) && not (crosses (lookup t) x y (ref j))
           && (eqb (lowOf (cond u free (node (variableAt t j) (lowAt t j) (highAt t j)))) q || eqb (highOf (cond u free (node (variableAt t j) (lowAt t j) (highAt t j)))) q))
@@ -183,33 +143,35 @@ module _ (t : List ℕ) (x y : ℕ) where
     byOthers : List ℕ
     byOthers = fold (namedOther t x) byRoots (records t)
 
-    roots-long : length byRoots ≡ mostRecords + 2
-    unfolding byRoots
-    roots-long = fold-long has (namedRoot r) (rootNames r) (root-long r) (root-has r) noNames (rootCount r) ∙ length-no-marks
+    -- records of other variables than x
+    abbrev other : ℕ → Bool
+    other i = isUsed t i && not (ofAt t x i)
 
-    others-long : length byOthers ≡ mostRecords + 2
+    by-roots-long : length byRoots ≡ mostRecords + 2
+    unfolding byRoots
+    by-roots-long = roots-long named has name-long name-has r noNames (rootCount r) ∙ length-no-marks
+
+    by-others-long : length byOthers ≡ mostRecords + 2
     unfolding byOthers namedOther
-    others-long = gated-fold t (λ i. isUsed t i && not (ofAt t x i)) byRoots (records t) ∙ roots-long
+    by-others-long = records-long named has name-long name-has t other byRoots (records t) ∙ by-roots-long
 
     roots-say : (q : ℕ) → q < mostRecords + 2 → has byRoots q ≡ any (rootNames r q) (rootCount r)
     unfolding byRoots
-    roots-say q h =
-        fold-names has (namedRoot r) (rootNames r) (root-long r) (root-has r) noNames (rootCount r) q (rw length-no-marks h)
-        ∙ ap (λ v. not (eqb v 0) || any (rootNames r q) (rootCount r)) (none-named q)
+    roots-say q h = roots-has named has name-long name-has r noNames (rootCount r) q (rw length-no-marks h) ∙ ap (λ v. not (eqb v 0) || any (rootNames r q) (rootCount r)) (none-named q)
 
-    others-say : (q : ℕ) → q < mostRecords + 2 → has byOthers q ≡ (any (rootNames r q) (rootCount r) || any (λ i. (isUsed t i && not (ofAt t x i)) && says t q i) (records t))
+    others-say : (q : ℕ) → q < mostRecords + 2 → has byOthers q ≡ (any (rootNames r q) (rootCount r) || any (λ i. other i && says t q i) (records t))
     unfolding byOthers namedOther
-    others-say q h = fold-has t (λ i. isUsed t i && not (ofAt t x i)) byRoots (records t) q (rw roots-long h) ∙ ap (λ b. b || any (λ i. (isUsed t i && not (ofAt t x i)) && says t q i) (records t)) (roots-say q h)
+    others-say q h = records-has named has name-long name-has t other byRoots (records t) q (rw by-roots-long h) ∙ ap (λ b. b || any (λ i. other i && says t q i) (records t)) (roots-say q h)
 
     names-say : (q : ℕ) → q < mostRecords + 2 → has (namesOf t r x standing m) q ≡ (any (rootNames r q) (rootCount r) || any (keeps t x y q) (records t))
     unfolding namesOf byRoots byOthers
     names-say q h =
         ap (λ l. has l q) (fold-entries (namedBy t) (standsAt t x y) C byOthers)
-        ∙ fold-has t (standsAt t x y) byOthers (records t) q (rw others-long h)
+        ∙ records-has named has name-long name-has t (standsAt t x y) byOthers (records t) q (rw by-others-long h)
         ∙ ap (λ b. b || any (λ i. standsAt t x y i && says t q i) (records t)) (others-say q h)
-        ∙ or-assoc (any (rootNames r q) (rootCount r)) (any (λ i. (isUsed t i && not (ofAt t x i)) && says t q i) (records t)) (any (λ i. standsAt t x y i && says t q i) (records t))
+        ∙ or-assoc (any (rootNames r q) (rootCount r)) (any (λ i. other i && says t q i) (records t)) (any (λ i. standsAt t x y i && says t q i) (records t))
         ∙ ap (λ b. any (rootNames r q) (rootCount r) || b)
-        (any-or (λ i. (isUsed t i && not (ofAt t x i)) && says t q i) (λ i. standsAt t x y i && says t q i) (records t)
+        (any-or (λ i. other i && says t q i) (λ i. standsAt t x y i && says t q i) (records t)
         ∙ ap (λ k. ltb k (records t)) (first-agrees _ _ (records t) (kept-is q)))
 
     roots-named : (q : ℕ) → any (λ k. eqb (getD (rootsOf r) k 0) q) (length (rootsOf r)) ≡ any (rootNames r q) (rootCount r)
@@ -218,9 +180,6 @@ module _ (t : List ℕ) (x y : ℕ) where
 
     records-name : (q : ℕ) → any (names (at (decode t)) (records t) x y (rootsOf r) q) (records t) ≡ any (keeps t x y q) (records t)
     records-name q = ap (λ k. ltb k (records t)) (first-agrees _ _ (records t) (names-is (rootsOf r) q))
-
-    two-more : (i : ℕ) → i + 2 ≡ ref i
-    two-more i = omega arith
 
     -- a y record without a name dies
     pub dies-is : records t ≤ mostRecords → (i : ℕ) → i < records t → (ofAt t y i && unnamed (namesOf t r x standing m) i) ≡ dies (at (decode t)) (records t) x y (rootsOf r) (ref i)

@@ -21,11 +21,17 @@ use Rattle.lists.specs.Entries.{length-entries, entry-at, entry-below}
 use Rattle.diagrams.specs.Layout.{records, variableAt, lowAt, highAt, isFree}
 use Rattle.diagrams.specs.Node.{Node, free, node, at, ref, look}
 use Rattle.diagrams.specs.Decode.{nodeAt, decode}
-use Rattle.diagrams.specs.Lookup.{lookup}
+use Rattle.diagrams.specs.Lookup.{lookup, at-decode}
 use Rattle.one_swap.specs.Record.{lowOf, highOf, isOf, same, by}
 use Rattle.one_swap.specs.Swap.{crosses, asked, crossing, stands, isNew, news, f00, f01, f10, f11}
 use Rattle.one_swap.specs.Loops.{newsTo, noted, news-begin, news-more, news-end}
-use Rattle.reckoning.specs.Reckoning.{standsAt, matchesAt, News, newAt, notePair, noteCrossing, noteRecord}
+use Rattle.reckoning.specs.Reckoning.{standsAt, matchesAt, News, newAt, crossesAt, notePair, noteCrossing}
+
+-- ---- the new records, record by record
+
+-- a record that does not cross asks for nothing
+unfoldable pub noteRecord : List ℕ → ℕ → ℕ → List ℕ → ℕ → News → ℕ → News
+noteRecord t x y standing count p i = cond (crossesAt t x y i) (noteCrossing t y standing count p i) p
 
 -- ---- room while the new records are noted
 
@@ -43,31 +49,27 @@ maybe-length false true w p a b = refl
 maybe-length false false true p a b = refl
 maybe-length false false false p a b = simp length-set
 
-maybe-count : (u v w : Bool) (p : News) (a b : ℕ) → (p .count ≤ noteMaybe u v w p a b .count) × (noteMaybe u v w p a b .count ≤ p .count + 1)
+maybe-count : (u v w : Bool) (p : News) (a b : ℕ) → noteMaybe u v w p a b .count ≤ p .count + 1
 unfolding noteMaybe
-maybe-count true v w p a b = (omega arith, omega arith)
-maybe-count false true w p a b = (omega arith, omega arith)
-maybe-count false false true p a b = (omega arith, omega arith)
-maybe-count false false false p a b = (omega arith, omega arith)
+maybe-count true v w p a b = omega arith
+maybe-count false true w p a b = omega arith
+maybe-count false false true p a b = omega arith
+maybe-count false false false p a b = omega arith
 
 module _ (t standing : List ℕ) (count : ℕ) where
-  pub pair-length : (p : News) (a b : ℕ) → length (notePair t standing count p a b .list) ≡ length (p .list)
+  pair-length : (p : News) (a b : ℕ) → length (notePair t standing count p a b .list) ≡ length (p .list)
   unfolding notePair noteMaybe
   pair-length p a b = maybe-length (eqb a b) (any (matchesAt t standing a b) count) (any (newAt (p .list) a b) (p .count)) p a b
 
-  pub pair-rises : (p : News) (a b : ℕ) → p .count ≤ notePair t standing count p a b .count
+  pair-count : (p : News) (a b : ℕ) → notePair t standing count p a b .count ≤ p .count + 1
   unfolding notePair noteMaybe
-  pair-rises p a b = maybe-count (eqb a b) (any (matchesAt t standing a b) count) (any (newAt (p .list) a b) (p .count)) p a b .0
-
-  pub pair-count : (p : News) (a b : ℕ) → notePair t standing count p a b .count ≤ p .count + 1
-  unfolding notePair noteMaybe
-  pair-count p a b = maybe-count (eqb a b) (any (matchesAt t standing a b) count) (any (newAt (p .list) a b) (p .count)) p a b .1
+  pair-count p a b = maybe-count (eqb a b) (any (matchesAt t standing a b) count) (any (newAt (p .list) a b) (p .count)) p a b
 
   module _ (x y : ℕ) where
     abbrev lowNoted : News → ℕ → News
     lowNoted p i = notePair t standing count p (f00 (lookup t) y (ref i)) (f10 (lookup t) y (ref i))
 
-    pub record-length : (p : News) (i : ℕ) → length (noteRecord t x y standing count p i .list) ≡ length (p .list)
+    record-length : (p : News) (i : ℕ) → length (noteRecord t x y standing count p i .list) ≡ length (p .list)
     unfolding noteRecord
     record-length p i = go (crosses (lookup t) x y (ref i))
       where
@@ -75,7 +77,7 @@ module _ (t standing : List ℕ) (count : ℕ) where
         go true = pair-length (lowNoted p i) _ _ ∙ pair-length p _ _
         go false = refl
 
-    pub record-count : (p : News) (i : ℕ) → noteRecord t x y standing count p i .count ≤ p .count + 2
+    record-count : (p : News) (i : ℕ) → noteRecord t x y standing count p i .count ≤ p .count + 2
     unfolding noteRecord
     record-count p i = go (crosses (lookup t) x y (ref i))
       where
@@ -83,12 +85,12 @@ module _ (t standing : List ℕ) (count : ℕ) where
         go true = omega (arith, pair-count (lowNoted p i) (f01 (lookup t) y (ref i)) (f11 (lookup t) y (ref i)), pair-count p (f00 (lookup t) y (ref i)) (f10 (lookup t) y (ref i)))
         go false = omega arith
 
-    pub noted-length : (p : News) (k : ℕ) → length (fold (noteRecord t x y standing count) p k .list) ≡ length (p .list)
+    noted-length : (p : News) (k : ℕ) → length (fold (noteRecord t x y standing count) p k .list) ≡ length (p .list)
     unfolding fold
     noted-length p zero = refl
     noted-length p (suc k) = record-length (fold (noteRecord t x y standing count) p k) k ∙ noted-length p k
 
-    pub noted-count : (p : News) (k : ℕ) → fold (noteRecord t x y standing count) p k .count ≤ p .count + 2 * k
+    noted-count : (p : News) (k : ℕ) → fold (noteRecord t x y standing count) p k .count ≤ p .count + 2 * k
     unfolding fold
     noted-count p zero = omega arith
     noted-count p (suc k) = omega (arith, record-count (fold (noteRecord t x y standing count) p k) k, noted-count p k)
@@ -100,7 +102,7 @@ module _ (t standing : List ℕ) (count : ℕ) where
     pub begun-length : (start : List ℕ) (k : ℕ) → length (fold (noteRecord t x y standing count) (begun start) k .list) ≡ length start
     begun-length start k = noted-length (begun start) k
 
-    pub begun-room : (start : List ℕ) (k n : ℕ) → k < n → 4 * n ≤ length start
+    begun-room : (start : List ℕ) (k n : ℕ) → k < n → 4 * n ≤ length start
         → 2 * fold (noteRecord t x y standing count) (begun start) k .count + 3 < length (fold (noteRecord t x y standing count) (begun start) k .list)
     begun-room start k n h long = omega (arith, begun-count start k, begun-length start k)
 
@@ -111,12 +113,6 @@ eqb-turned a b = ⊎-elim (λ t. t ∙ sym (eq-eqb b a (sym (eqb-true a b t)))) 
 
 eqb-itself : (a : ℕ) → eqb a a ≡ true
 eqb-itself a = eq-eqb a a refl
-
--- ---- the records of the bytes
-
-pub at-is : (t : List ℕ) (i : ℕ) → i < records t → at (decode t) i ≡ nodeAt t i
-unfolding decode
-at-is t i b = getD-tabulate (records t) (nodeAt t) i free b
 
 -- ---- the new records as a list of records
 
@@ -177,7 +173,7 @@ regrouped false b c d = refl
 
 stands-is : (t : List ℕ) (x y : ℕ) (roots : List ℕ) (a b j : ℕ) → j < records t → stands (at (decode t)) (records t) x y roots (node x a b) j ≡ (standsAt t x y j && hits t a b j)
 unfolding stands standsAt look nodeAt same isOf
-stands-is t x y roots a b j h = rw (at-is t j h) (go (isFree t j) (crosses (lookup t) x y (ref j)))
+stands-is t x y roots a b j h = rw (at-decode t j h) (go (isFree t j) (crosses (lookup t) x y (ref j)))
   where
     go : (u c : Bool) → (same (node x a b) (cond u free (node (variableAt t j) (lowAt t j) (highAt t j))) && not c) ≡ ((isOf x (cond u free (node (variableAt t j) (lowAt t j) (highAt t j))) && not c) && hits t a b j)
     go true c = refl
@@ -223,7 +219,7 @@ module _ (t : List ℕ) (x y : ℕ) (roots : List ℕ) (standing : List ℕ) (m 
 
   -- ---- a pair noted is a record noted
 
-  pub pair-noted : (p : News) (a b : ℕ) → 2 * p .count + 1 < length (p .list)
+  pair-noted : (p : News) (a b : ℕ) → 2 * p .count + 1 < length (p .list)
       → newsList x (notePair t standing m p a b) ≡ noted (at (decode t)) (records t) x y roots (newsList x p) (node x a b)
   unfolding notePair noted isNew lowOf highOf
   pair-noted p a b room =
@@ -237,7 +233,7 @@ module _ (t : List ℕ) (x y : ℕ) (roots : List ℕ) (standing : List ℕ) (m 
       go false false true = refl
       go false false false = news-pushed x p a b room
 
-  pub record-noted : (p : News) (i : ℕ) → 2 * p .count + 3 < length (p .list)
+  record-noted : (p : News) (i : ℕ) → 2 * p .count + 3 < length (p .list)
       → newsList x (noteRecord t x y standing m p i)
       ≡ cond (crossing (at (decode t)) (records t) x y roots i)
       (noted (at (decode t)) (records t) x y roots (noted (at (decode t)) (records t) x y roots (newsList x p) (asked (lookup t) x y false (ref i))) (asked (lookup t) x y true (ref i)))
@@ -260,7 +256,7 @@ module _ (t : List ℕ) (x y : ℕ) (roots : List ℕ) (standing : List ℕ) (m 
       go false = refl
 
   -- the pairs noted of the first k records are the new records that these ask for
-  pub news-list : (start : List ℕ) → 4 * records t ≤ length start → (k : ℕ) → k ≤ records t → newsList x (fold (noteRecord t x y standing m) (begun start) k) ≡ newsTo (at (decode t)) (records t) x y roots k
+  news-list : (start : List ℕ) → 4 * records t ≤ length start → (k : ℕ) → k ≤ records t → newsList x (fold (noteRecord t x y standing m) (begun start) k) ≡ newsTo (at (decode t)) (records t) x y roots k
   unfolding fold newsList tabulate
   news-list start long zero h = sym (news-begin (at (decode t)) (records t) x y roots)
   news-list start long (suc k) h =

@@ -17,28 +17,25 @@ use Rattle.lists.specs.Keep.{which, which-length}
 use Rattle.lists.specs.Says.{either-side}
 use Rattle.lists.specs.Which.{which-agrees, which-index, which-absent}
 use Rattle.diagrams.specs.Layout.{mostRecords, records, variableAt, lowAt, highAt, isFree}
-use Rattle.diagrams.specs.Node.{Node, free, node, at, ref}
+use Rattle.diagrams.specs.Node.{Node, free, node, at, ref, two-more}
 use Rattle.diagrams.specs.Decode.{nodeAt, decode}
-use Rattle.diagrams.specs.Lookup.{lookup, rootsOf}
+use Rattle.diagrams.specs.Lookup.{lookup, at-decode, rootsOf}
 use Rattle.one_swap.specs.Record.{isFreeNode, same, by, and-left, and-right}
 use Rattle.one_swap.specs.Swap.{crosses, news, slots, slotOf, needed, freeCount, fits, X, becomes, turn, filled, dies, after, f00, f01, f10, f11}
-use Rattle.reckoning.specs.Reckoning.{ofAt, crossesAt, standsAt, matchesAt, News, newAt, noteCrossing, noteRecord, slotAt, settledAt, namesOf, unnamed, crossedAt, rewritten}
+use Rattle.reckoning.specs.Reckoning.{ofAt, crossesAt, standsAt, matchesAt, News, newAt, noteCrossing, slotAt, settledAt, namesOf, unnamed, crossedAt, rewritten}
 use Rattle.reckoning.specs.Inside.{Inside, inside-of}
-use Rattle.reckoning.specs.Noting.{begun, begun-count, begun-length, at-is, newsList, length-news, news-at, new-first, found, sought, standing-finds, standing-any, news-whole}
+use Rattle.reckoning.specs.Noting.{noteRecord, begun, begun-count, begun-length, newsList, length-news, news-at, new-first, found, sought, standing-finds, standing-any, news-whole}
 use Rattle.reckoning.specs.Naming.{dies-is}
 
 -- ---- the free records
 
 free-is : (t : List ℕ) (i : ℕ) → i < records t → isFreeNode (at (decode t) i) ≡ isFree t i
 unfolding nodeAt isFreeNode
-free-is t i b = ap isFreeNode (at-is t i b) ∙ go (isFree t i)
+free-is t i b = ap isFreeNode (at-decode t i b) ∙ go (isFree t i)
   where
     go : (u : Bool) → isFreeNode (cond u free (node (variableAt t i) (lowAt t i) (highAt t i))) ≡ u
     go true = refl
     go false = refl
-
-two-more : (i : ℕ) → i + 2 ≡ ref i
-two-more i = omega arith
 
 module _ (t : List ℕ) (x y : ℕ) (roots : List ℕ) where
   slots-which : slots (at (decode t)) (records t) x y roots ≡ which (isFree t) (records t)
@@ -50,16 +47,16 @@ module _ (t : List ℕ) (x y : ℕ) (roots : List ℕ) where
   free-count = ap length (sym slots-which) ∙ which-length (λ i. isFreeNode (at (decode t) i)) (records t)
 
   -- a free record is the slot with as many before it as are free before it
-  pub turn-free : (i : ℕ) → i < records t → isFree t i ≡ true → turn (at (decode t)) (records t) x y roots i ≡ count (isFree t) i
+  turn-free : (i : ℕ) → i < records t → isFree t i ≡ true → turn (at (decode t)) (records t) x y roots i ≡ count (isFree t) i
   unfolding turn
   turn-free i h e = rw slots-which (which-index (isFree t) (records t) i h e)
 
   -- a used one is none
-  pub turn-used : (i : ℕ) → isFree t i ≡ false → turn (at (decode t)) (records t) x y roots i ≡ freeCount (at (decode t)) (records t) x y roots
+  turn-used : (i : ℕ) → isFree t i ≡ false → turn (at (decode t)) (records t) x y roots i ≡ freeCount (at (decode t)) (records t) x y roots
   unfolding turn
   turn-used i e = rw slots-which (which-absent (isFree t) (records t) i e) ∙ free-count
 
-  pub filled-is : needed (at (decode t)) (records t) x y roots ≤ freeCount (at (decode t)) (records t) x y roots
+  filled-is : needed (at (decode t)) (records t) x y roots ≤ freeCount (at (decode t)) (records t) x y roots
       → (i : ℕ) → i < records t → filled (at (decode t)) (records t) x y roots i ≡ (isFree t i && ltb (count (isFree t) i) (needed (at (decode t)) (records t) x y roots))
   unfolding filled
   filled-is fit i h = go (by (isFree t i))
@@ -68,11 +65,8 @@ module _ (t : List ℕ) (x y : ℕ) (roots : List ℕ) where
       go (inl e) = rw (e, turn-free i h e)
       go (inr e) = rw (e, turn-used i e) (le-ltb _ _ fit)
 
-  pub filled-used : needed (at (decode t)) (records t) x y roots ≤ freeCount (at (decode t)) (records t) x y roots → (i : ℕ) → i < records t → isFree t i ≡ false → filled (at (decode t)) (records t) x y roots i ≡ false
-  filled-used fit i h e = filled-is fit i h ∙ rw e
-
   module _ {list : List ℕ} {frees : ℕ} (C : Collected (isFree t) (records t) list frees) where
-    pub frees-is : frees ≡ freeCount (at (decode t)) (records t) x y roots
+    frees-is : frees ≡ freeCount (at (decode t)) (records t) x y roots
     frees-is = sym (length-entries C) ∙ free-count
 
     -- slot j, and 0 past the last one
@@ -98,7 +92,7 @@ pub record Reckoned (t : List ℕ) (x y : ℕ) (standing : List ℕ) (m : ℕ) (
   pub news-are : p ≡ fold (noteRecord t x y standing m) (begun start) (records t)
   pub slots-are : Collected (isFree t) (records t) list frees
 
--- as the code fills it
+-- the new records are noted of the crossing ones only
 module _ (t : List ℕ) (x y : ℕ) {standing : List ℕ} {m : ℕ} {crossing : List ℕ} {k : ℕ} {p : News} {slots : List ℕ} {frees : ℕ} (start : List ℕ) where
   pub reckoned : records t ≤ mostRecords → Collected (standsAt t x y) (records t) standing m → Collected (crossesAt t x y) (records t) crossing k → 4 * mostRecords ≤ length start
       → p ≡ fold (through crossing (noteCrossing t y standing m)) (record { list = start; count = 0 }) k → Collected (isFree t) (records t) slots frees → Reckoned t x y standing m p slots frees
@@ -176,7 +170,7 @@ module _ {t : List ℕ} {x y : ℕ} {standing : List ℕ} {m : ℕ} {p : News} {
           → cond u (node x (getD (p .list) (2 * count (isFree t) i) 0) (getD (p .list) (2 * count (isFree t) i + 1) 0)) (cond (ofAt t y i && unnamed names i) free (nodeAt t i))
           ≡ cond u (getD (news (at (decode t)) (records t) x y (rootsOf r)) (turn (at (decode t)) (records t) x y (rootsOf r) i) free) (cond (dies (at (decode t)) (records t) x y (rootsOf r) (ref i)) free (at (decode t) i))
       other-is true e = new-is e
-      other-is false e = ap₂ (λ (d : Bool) (o : Node). cond d free o) (buried-is i h) (sym (at-is t i h))
+      other-is false e = ap₂ (λ (d : Bool) (o : Node). cond d free o) (buried-is i h) (sym (at-decode t i h))
 
       pub rewritten-is : rewritten t x y standing m p list frees names i ≡ after (at (decode t)) (records t) x y (rootsOf r) i
       unfolding rewritten crossedAt after becomes

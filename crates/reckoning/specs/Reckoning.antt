@@ -1,5 +1,5 @@
 -- The reckoning of a swap, as the code goes about it: lists of numbers in a work area, found and filled from the bytes.
--- `Reckoned` below says that they hold what the definition of a swap speaks of.
+-- `Reckoned` says that they hold what the definition of a swap speaks of.
 use Prim.Native.Nat.{ℕ, _+_, _*_}
 use mathlib.Core.Bool.{Bool, cond, not, _&&_}
 use mathlib.Core.List.{List}
@@ -11,8 +11,7 @@ use Rattle.lists.specs.Entries.{through}
 use Rattle.lists.specs.Fold.{fold}
 use Rattle.diagrams.specs.Layout.{records, rootCount, rootAt, lowAt, highAt, isFree, isUsed}
 use Rattle.diagrams.specs.Node.{Node, free, node, ref}
-use Rattle.diagrams.specs.Decode.{eight, nodeAt}
-use Rattle.diagrams.specs.Store.{storedAt}
+use Rattle.diagrams.specs.Decode.{nodeAt}
 use Rattle.diagrams.specs.Lookup.{lookup}
 use Rattle.checks.specs.Marks.{noMarks}
 use Rattle.one_swap.specs.Record.{isOf}
@@ -56,10 +55,6 @@ noteCrossing t y standing count p i =
     (notePair t standing count p (f00 (lookup t) y (ref i)) (f10 (lookup t) y (ref i)))
     (f01 (lookup t) y (ref i)) (f11 (lookup t) y (ref i))
 
--- record by record: the others ask for nothing
-unfoldable pub noteRecord : List ℕ → ℕ → ℕ → List ℕ → ℕ → News → ℕ → News
-noteRecord t x y standing count p i = cond (crossesAt t x y i) (noteCrossing t y standing count p i) p
-
 -- ---- X(a, b), found in the work area
 unfoldable pub slotAt : List ℕ → ℕ → ℕ → ℕ
 slotAt slots frees j = cond (ltb j frees) (getD slots j 0) 0
@@ -98,21 +93,11 @@ namesOf t r x standing count = fold (through standing (namedBy t)) (fold (namedO
 unfoldable pub unnamed : List ℕ → ℕ → Bool
 unnamed names i = eqb (getD names (i + 2) 0) 0
 
--- ---- the image of the table afterwards: the table, then what dies, what is new and what crosses
-
-abbrev pub copiedAt : List ℕ → List ℕ → ℕ → List ℕ
-copiedAt t l i = storedAt l i (eight (nodeAt t i))
-
--- a y record without a name
-unfoldable pub buriedAt : List ℕ → List ℕ → ℕ → List ℕ
-buriedAt names l i = cond (unnamed names i) (storedAt l i (eight free)) l
+-- ---- what becomes of each record
 
 -- new record j
 abbrev pub newNode : ℕ → News → ℕ → Node
 newNode x p j = node x (getD (p .list) (2 * j) 0) (getD (p .list) (2 * j + 1) 0)
-
-abbrev pub placedAt : ℕ → News → List ℕ → List ℕ → ℕ → List ℕ
-placedAt x p slots l j = storedAt l (getD slots j 0) (eight (newNode x p j))
 
 -- a crossing record
 unfoldable pub crossedAt : List ℕ → ℕ → List ℕ → ℕ → News → List ℕ → ℕ → ℕ → Node
@@ -121,10 +106,7 @@ crossedAt t y standing count p slots frees i =
     (settledAt t standing count p slots frees (f00 (lookup t) y (ref i)) (f10 (lookup t) y (ref i)))
     (settledAt t standing count p slots frees (f01 (lookup t) y (ref i)) (f11 (lookup t) y (ref i)))
 
-abbrev pub crossedInto : List ℕ → ℕ → List ℕ → ℕ → News → List ℕ → ℕ → List ℕ → ℕ → List ℕ
-crossedInto t y standing count p slots frees l i = storedAt l i (eight (crossedAt t y standing count p slots frees i))
-
--- so record i becomes
+-- record i
 unfoldable pub rewritten : List ℕ → ℕ → ℕ → List ℕ → ℕ → News → List ℕ → ℕ → List ℕ → ℕ → Node
 rewritten t x y standing count p slots frees names i =
     cond (crossesAt t x y i) (crossedAt t y standing count p slots frees i)

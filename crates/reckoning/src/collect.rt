@@ -4,7 +4,8 @@ ghost use Prim.Native.Nat.{_<_, _≤_};
 ghost use lib.ListN.{length, getD};
 ghost use Rattle.lists.specs.Collect.{Collected, Pushed};
 ghost use Rattle.diagrams.specs.Layout.{mostRecords, records, isFree};
-ghost use Rattle.reckoning.specs.Reckoning.{ofAt, crossesAt, standsAt};
+ghost use Rattle.reckoning.specs.Inside.{Splits};
+ghost use Rattle.reckoning.specs.Reckoning.{ofAt};
 use super::kinds;
 use diagrams::MOST_RECORDS;
 use diagrams::RECORD_SIZE;
@@ -72,50 +73,50 @@ pub fn collect_free(table: &[u8], list: &mut [u16]) -> usize
 }
 
 // How many of the x records cross, and how many stand.
-pub struct Parts {
+pub struct Split {
     pub crossing: usize,
     pub standing: usize,
 }
 
-fn split(
+fn split_x(
     table: &[u8],
     x: Variable,
     y: Variable,
-    upper: &[u16],
+    xs: &[u16],
     m: usize,
     crossing: &mut [u16],
     standing: &mut [u16],
-) -> Parts
-    requires { ⌜ Collected (ofAt (now table) (x .0)) (records (now table)) (now upper) m × ((m ≤ length (now crossing)) × (m ≤ length (now standing))) ⌝ }
-    ensures { λ s. ⌜ (Collected (crossesAt (now (table .entry)) (x .0) (y .0)) (records (now (table .entry))) (now (crossing .exit)) (s .crossing) × Collected (standsAt (now (table .entry)) (x .0) (y .0)) (records (now (table .entry))) (now (standing .exit)) (s .standing)) × ((s .crossing ≤ m) × (s .standing ≤ m)) ⌝ }
+) -> Split
+    requires { ⌜ Collected (ofAt (now table) (x .0)) (records (now table)) (now xs) m × ((m ≤ length (now crossing)) × (m ≤ length (now standing))) ⌝ }
+    ensures { λ s. ⌜ Splits (now (table .entry)) (x .0) (y .0) (now (crossing .exit)) (now (standing .exit)) s × ((s .crossing ≤ m) × (s .standing ≤ m)) ⌝ }
 {
     let mut c: usize = 0;
     let mut s: usize = 0;
     let mut k = 0;
     while k < m {
-        let i = entry(upper, k);
+        let i = entry(xs, k);
         let crosses = kinds::is_crossing(table, x, y, i);
         c = push_if(crossing, c, crosses, i);
         s = push_if(standing, s, !crosses, i);
         k += 1;
     }
-    Parts {
+    Split {
         crossing: c,
         standing: s,
     }
 }
 
-pub fn collect_upper(
+pub fn collect_x(
     table: &[u8],
     x: Variable,
     y: Variable,
     crossing: &mut [u16],
     standing: &mut [u16],
-) -> Parts
+) -> Split
     requires { ⌜ (records (now table) ≤ mostRecords) × ((mostRecords ≤ length (now crossing)) × (mostRecords ≤ length (now standing))) ⌝ }
-    ensures { λ s. ⌜ (Collected (crossesAt (now (table .entry)) (x .0) (y .0)) (records (now (table .entry))) (now (crossing .exit)) (s .crossing) × Collected (standsAt (now (table .entry)) (x .0) (y .0)) (records (now (table .entry))) (now (standing .exit)) (s .standing)) × ((s .crossing ≤ records (now (table .entry))) × (s .standing ≤ records (now (table .entry)))) ⌝ }
+    ensures { λ s. ⌜ Splits (now (table .entry)) (x .0) (y .0) (now (crossing .exit)) (now (standing .exit)) s × ((s .crossing ≤ records (now (table .entry))) × (s .standing ≤ records (now (table .entry)))) ⌝ }
 {
-    let mut upper = no_entries();
-    let m = collect_of(table, x, &mut upper);
-    split(table, x, y, &upper, m, crossing, standing)
+    let mut xs = no_entries();
+    let m = collect_of(table, x, &mut xs);
+    split_x(table, x, y, &xs, m, crossing, standing)
 }

@@ -24,7 +24,7 @@ pub fn is_record_of(table: &[u8], v: Variable, i: RecordNumber) -> bool
 }
 
 // Does x name a used record of v?
-pub fn names_record_of(table: &[u8], v: Variable, x: Reference) -> bool
+fn names_record_of(table: &[u8], v: Variable, x: Reference) -> bool
     ensures { λ b. ⌜ b ≡ isOf (v .0) (lookup (now (table .entry)) (x .0)) ⌝ }
 {
     if x.is_constant() {
@@ -47,7 +47,7 @@ pub fn is_crossing(table: &[u8], x: Variable, y: Variable, i: RecordNumber) -> b
 }
 
 // The grandchild through the child c, on the low side or the high one.
-pub fn grandchild(table: &[u8], y: Variable, high: bool, c: Reference) -> Reference
+fn grandchild(table: &[u8], y: Variable, high: bool, c: Reference) -> Reference
     requires { ⌜ c .0 < 65536 ⌝ }
     ensures { λ r. ⌜ (r .0 ≡ grandchild (lookup (now (table .entry))) (y .0) high (c .0)) × (r .0 < 65536) ⌝ }
 {

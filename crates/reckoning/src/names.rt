@@ -4,7 +4,7 @@ ghost use Prim.Native.Nat.{_+_, _*_, _<_, _≤_};
 ghost use lib.ListN.{length};
 ghost use Rattle.lists.specs.Entries.{through};
 ghost use Rattle.lists.specs.Fold.{fold};
-ghost use Rattle.diagrams.specs.Layout.{recordSize, rootSize, records, rootCount};
+ghost use Rattle.diagrams.specs.Layout.{recordSize, records, rootCount};
 ghost use Rattle.checks.specs.Meaning.{Sized};
 ghost use Rattle.reckoning.specs.Inside.{Inside};
 ghost use Rattle.reckoning.specs.Reckoning.{named, namedRoot, namedBy, namedOther, noNames, namesOf, unnamed};
@@ -107,9 +107,9 @@ pub fn count_names(
 }
 
 pub fn is_unnamed(names: &[u16], i: RecordNumber) -> bool
-    requires { ⌜ i .0 + 2 < length (now names) ⌝ }
+    requires { ⌜ (i .0 + 2 < length (now names)) × (i .0 < 65536) ⌝ }
     ensures { λ b. ⌜ b ≡ unnamed (now (names .entry)) (i .0) ⌝ }
 {
-    let at = i.0 + 2;
+    let at = i.reference().0;
     names[at] == 0
 }

@@ -8,12 +8,19 @@ ghost use Rattle.lists.specs.Fold.{fold};
 ghost use Rattle.lists.specs.Entries.{through};
 ghost use Rattle.diagrams.specs.Layout.{recordSize, mostRecords, isFree};
 ghost use Rattle.reckoning.specs.Inside.{Inside, InUse};
-ghost use Rattle.reckoning.specs.Reckoning.{News, matchesAt, newAt, notePair, noteCrossing, slotAt, settledAt};
+ghost use Rattle.reckoning.specs.Reckoning.{matchesAt, newAt, notePair, noteCrossing, slotAt, settledAt};
 use super::collect;
 use super::kinds;
+use diagrams::MOST_RECORDS;
 use diagrams::RecordNumber;
 use diagrams::Reference;
 use diagrams::Variable;
+
+pub fn no_news() -> [u16; 4 * MOST_RECORDS]
+    ensures { λ l. ⌜ length l ≡ 4 * mostRecords ⌝ }
+{
+    [0u16; 4 * MOST_RECORDS]
+}
 
 // Is entry k of the standing records the one with low a and high b?
 fn matches(table: &[u8], standing: &[u16], k: usize, a: Reference, b: Reference) -> bool
@@ -140,14 +147,14 @@ pub fn reckon(
 }
 
 // The free record that new record j goes into.
-fn slot(slots: &[u16], free: usize, j: usize) -> usize
+fn slot(slots: &[u16], free: usize, j: usize) -> RecordNumber
     requires { ⌜ free ≤ length (now slots) ⌝ }
-    ensures { λ r. ⌜ (r ≡ slotAt (now (slots .entry)) free j) × (r < 65536) ⌝ }
+    ensures { λ i. ⌜ (i .0 ≡ slotAt (now (slots .entry)) free j) × (i .0 < 65536) ⌝ }
 {
     if j < free {
-        return collect::wide(slots[j]);
+        return collect::entry(slots, j);
     }
-    0
+    RecordNumber(0)
 }
 
 // The reference X(a, b).
@@ -170,8 +177,8 @@ pub fn settle(
     }
     let k = find_standing(table, standing, count, a, b);
     if k < count {
-        return Reference(collect::wide(standing[k]) + 2);
+        return collect::entry(standing, k).reference();
     }
     let j = find_new(news, n, a, b);
-    Reference(slot(slots, free, j) + 2)
+    slot(slots, free, j).reference()
 }

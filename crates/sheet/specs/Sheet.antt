@@ -13,7 +13,7 @@ use Rattle.diagrams.specs.Lookup.{rootsOf}
 use Rattle.orders.specs.Permutation.{holdsAt, badPlace, levelOf}
 use Rattle.orders.specs.Exchange.{exchange}
 use Rattle.orders.specs.Inversions.{inverted, left}
-use Rattle.orders.specs.Plans.{differsAt, same?, bringUp}
+use Rattle.orders.specs.Plans.{differsAt, same?, bringUp, nearest}
 use Rattle.checks.specs.Stages.{only, judged}
 use Rattle.checks.specs.Tests.{badSizes, dead, malformed, notUnder, notBelow, lowIsHigh, sameRecord, repeats, deadRoot, rootNames, recordNames, idle}
 use Rattle.checks.specs.Check.{tableStages}
@@ -90,5 +90,5 @@ rows =
 
 -- every row comes out as the sheet has it
 pub sheet : map outcome rows ≡ map expected rows
-unfolding outcome expected rows swap orders rootBytes nodeAt decode eight encode rootsOf runOf runStages badRunSizes badSizes only judged holdsAt badPlace levelOf tableStages dead malformed notUnder notBelow lowIsHigh sameRecord repeats deadRoot rootNames recordNames idle ranTo answerOf relay slice over.after over.judge made goes next arrived same? differsAt bringUp exchange left inverted pairs total first count tabulate keep once each which look lowOf highOf isFreeNode isOf same grandchild f00 f01 f10 f11 crosses asked stands isNew wanted news names dies slots slotOf X becomes needed freeCount fits turn filled one.after swapped tableAfter
+unfolding outcome expected rows swap orders rootBytes nodeAt decode eight encode rootsOf runOf runStages badRunSizes badSizes only judged holdsAt badPlace levelOf tableStages dead malformed notUnder notBelow lowIsHigh sameRecord repeats deadRoot rootNames recordNames idle ranTo answerOf relay slice over.after over.judge made goes next arrived same? differsAt bringUp nearest exchange left inverted pairs total first count tabulate keep once each which look lowOf highOf isFreeNode isOf same grandchild f00 f01 f10 f11 crosses asked stands isNew wanted news names dies slots slotOf X becomes needed freeCount fits turn filled one.after swapped tableAfter
 sheet = refl

@@ -1,14 +1,14 @@
 -- One law for each way out of a function, over plain variables: its premises are what is known there.
 use Prim.Native.Nat.{ℕ, _+_, _≤_, _<_}
-use mathlib.Core.Bool.{Bool, true, false, cond, not, _&&_, _||_}
+use mathlib.Core.Bool.{Bool, true, false, cond, not, _||_}
 use mathlib.Core.List.{List}
 use mathlib.Core.Path.{_≡_, refl, ap, sym, _∙_}
 use native.Mathlib.Omega.{arith}
 use borrow.Author.Tests.{not-true, not-false}
 use lib.Dec.{eqb}
-use lib.ListN.{length, getD, take}
+use lib.ListN.{length, getD}
 use lib.Seq.{getD-take}
-use Rattle.lists.specs.First.{Passed, first, first-passed}
+use Rattle.lists.specs.First.{passed-all}
 use Rattle.lists.specs.Says.{true-false}
 use Rattle.orders.specs.Permutation.{ceiling, Permutation}
 use Rattle.orders.specs.Exchange.{exchange}
@@ -17,17 +17,14 @@ use Rattle.orders.specs.Inversions.{left, Adjacent}
 use Rattle.orders.specs.Plans.{same?, bringUp, bring-up-lawful}
 use Rattle.orders.specs.Arranged.{bytesOf, Arranged, load-bytes, load-arranged, arranged-length, arranged-inverse, exchanged-arranged, exchanged-bytes, arranged-adjacent}
 use Rattle.orders.specs.declared.Order.{Order}
-use Rattle.diagrams.specs.Layout.{records}
 use Rattle.diagrams.specs.Node.{at}
-use Rattle.diagrams.specs.Decode.{decode}
-use Rattle.diagrams.specs.Lookup.{rootsOf}
 use Rattle.checks.specs.Meaning.{Sized, sized}
 use Rattle.checks.specs.Tests.{badSizes}
 use Rattle.checks.specs.Stages as stages
 use Rattle.checks.specs.Stages.{clear-only, chain}
 use Rattle.checks.specs.declared.Verdict.{Verdict}
 use Rattle.checks.specs.declared.Verdict.the-variants as verdict
-use Rattle.one_swap.specs.Swap.{xAt, yAt, needed, freeCount}
+use Rattle.one_swap.specs.Swap.{xAt, yAt}
 use Rattle.swaps.specs.Outcome.{fitsIn, roomOf, tableAfter, RoomOutcome, room-fits, room-lacks}
 use Rattle.swaps.specs.Bytes.{no-room-only}
 use Rattle.swaps.specs.declared.Room.{Room}
@@ -36,7 +33,7 @@ use Rattle.checks.specs.Usable.{Usable}
 use Rattle.slices.specs.Slices as over
 use Rattle.slices.specs.Slices.{slicing-goes, slicing-rests, slicing-ends}
 use Rattle.slices.specs.Run.{State, relay, badRunSizes, runStages, answerOf, ranTo, runJudged, runOf, stateOf, Stepped, Driven}
-use Rattle.slices.specs.Bounds.{run-starts}
+use Rattle.slices.specs.Theorems.{run-starts}
 use Rattle.slices.specs.declared.Slice.{Slice}
 use Rattle.slices.specs.declared.Slice.the-variants.{Done, NoRoom, Paused, Refused}
 use Rattle.slices.specs.declared.Turn.{Turn}
@@ -51,9 +48,6 @@ sizes-right t r o g e h = go (badSizes t r o) (sym e ∙ h)
     go : (a : Bool) → (a || not (eqb (length g) (length o))) ≡ false → a ≡ false
     go true q = q
     go false q = refl
-
-pub passed-all : {x : ℕ} (p : ℕ → Bool) (n : ℕ) → x ≡ first p n → n ≤ x → Passed p n
-passed-all p n e h = record { at = λ k l. first-passed p n .at k (omega arith) }
 
 pub ruleset refusing = (sizes-right, passed-all, chain)
 

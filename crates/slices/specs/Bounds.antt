@@ -1,24 +1,19 @@
 -- The numbers of an answer of Run are small: it makes no more swaps than its budget, and left, level, needed and free are those of a table that the relay can use.
 use Prim.Native.Nat.{ℕ, _*_, _≤_, _<_}
-use mathlib.Core.Bool.{Bool, true, false, cond, not, _||_}
+use mathlib.Core.Bool.{Bool, true, false, cond, not}
 use mathlib.Core.List.{List, []}
 use mathlib.Core.Path.{_≡_, refl}
 use native.Mathlib.Omega.{arith}
-use borrow.Author.Tests.{eqb-true}
-use lib.Dec.{eqb}
 use lib.ListN.{length}
 use Rattle.lists.specs.Below.{Below}
-use Rattle.lists.specs.Says.{true-false}
-use Rattle.orders.specs.Permutation.{ceiling, Permutation, permutation-if}
+use Rattle.orders.specs.Permutation.{ceiling}
 use Rattle.orders.specs.Inversions.{left, left-small}
 use Rattle.orders.specs.Plans.{bringUp, bring-up-within}
 use Rattle.diagrams.specs.Layout.{mostRecords}
 use Rattle.checks.specs.Stages as stages
-use Rattle.checks.specs.Stages.{AllPass, also, FailsFirst, here, later, only-passed, passed-only, clear-only, refused-only}
-use Rattle.checks.specs.Tests.{badSizes}
-use Rattle.checks.specs.Check.{tableStages, checkStages}
-use Rattle.checks.specs.Meaning.{Sizes, sizes-if, sizes-then}
-use Rattle.checks.specs.Usable.{Usable, usable-if, passes-all}
+use Rattle.checks.specs.Stages.{FailsFirst, here, later, passed-only, clear-only, refused-only}
+use Rattle.checks.specs.Check.{tableStages}
+use Rattle.checks.specs.Meaning.{Sizes}
 use Rattle.checks.specs.Theorems.{Bounded, refusal-below, table-bounded}
 use Rattle.checks.specs.declared.Verdict as judged
 use Rattle.checks.specs.declared.Verdict.the-variants as verdict
@@ -26,35 +21,17 @@ use Rattle.one_swap.specs.Swap.{xAt, yAt}
 use Rattle.swaps.specs.Bounds.{room-small}
 use Rattle.slices.specs.Slices as over
 use Rattle.slices.specs.Slices.{done, noRoom, paused}
-use Rattle.slices.specs.Run.{State, relay, badRunSizes, runStages, answerOf, ranTo, runJudged, runOf, numbers}
-use Rattle.slices.specs.Theorems.{made-small, good-left}
+use Rattle.slices.specs.Run.{State, relay, runStages, answerOf, ranTo, runJudged, runOf, numbers}
+use Rattle.slices.specs.Theorems.{run-sizes, run-starts, good-left}
 
--- ---- what passes Run's checks
-
-both-false : (a b : Bool) → (a || not b) ≡ false → (a ≡ false) × (b ≡ true)
-both-false true b e = true-false e
-both-false false true e = (refl, refl)
-both-false false false e = true-false e
+-- ---- a refusal
 
 module _ (t r o g : List ℕ) where
-  run-sizes : badRunSizes t r o g ≡ false → Sizes t r o × (length g ≡ length o)
-  unfolding badRunSizes
-  run-sizes e =
-      let w = both-false (badSizes t r o) (eqb (length g) (length o)) e in
-      (sizes-if t r o (w .0), eqb-true (length g) (length o) (w .1))
-
-  -- a run that isn't refused starts from a table that the relay can use, towards a permutation of its variables
-  pub run-starts : AllPass (runStages t r o g) → Usable t r o × Permutation g × (length g ≡ length o)
-  unfolding runStages checkStages
-  run-starts (also h (also p (also q rest))) =
-      let w = run-sizes (passed-only 0 h) in
-      (usable-if t r o (passes-all t r o (also (only-passed 0 (sizes-then t r o (w .0))) (also p rest))), permutation-if g q, w .1)
-
   refused-small : (m k x : ℕ) → mostRecords ≤ m → FailsFirst (runStages t r o g) k x → (k < m) × (x < m)
   unfolding runStages tableStages Bounded
   refused-small m _ x b (here l d h) = (omega arith, omega arith)
   refused-small m k x b (later h f) =
-      let w = run-sizes (passed-only 0 h) in
+      let w = run-sizes t r o g (passed-only 0 h) in
       let few : length o ≤ m = omega (arith, w .0 .few-variables) in
       refusal-below m _ k x (omega arith, few, (omega arith, omega (arith, w .1), table-bounded t r o [] m b tt (w .0))) f
 
@@ -88,7 +65,7 @@ module _ (t r o g : List ℕ) (budget m : ℕ) (big : 2 * mostRecords < m) (fits
   ran-below verdict.Clear e =
       let w = run-starts t r o g (clear-only (runStages t r o g) e) in
       let s : State = record { table = t; order = o } in
-      judged-below r g m (over.made (relay r) bringUp g budget s) (over.after (relay r) bringUp g budget s) big (omega (arith, made-small r g budget s)) (good-left t r o g (w .0) (w .1) (w .2) budget .0 .sizes)
+      judged-below r g m (over.made (relay r) bringUp g budget s) (over.after (relay r) bringUp g budget s) big (omega (arith, over.made-small (relay r) bringUp g budget s)) (good-left t r o g (w .0) (w .1) (w .2) budget .0 .sizes)
   ran-below (verdict.Refused k x) e =
       let w = refused-small t r o g m k x (omega arith) (refused-only (runStages t r o g) k x e) in
       (w .0, (w .1, tt))

@@ -6,7 +6,7 @@ use mathlib.Core.Path.{_≡_}
 use lib.Dec.{eqb}
 use lib.ListN.{length}
 use Rattle.orders.specs.Exchange.{exchange}
-use Rattle.orders.specs.Plans.{Plan, bringUp}
+use Rattle.orders.specs.Plans.{bringUp}
 use Rattle.orders.specs.Arranged.{bytesOf, Arranged}
 use Rattle.orders.specs.declared.Order.{Order}
 use Rattle.diagrams.specs.Layout.{records}

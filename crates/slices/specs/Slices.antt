@@ -1,6 +1,6 @@
 -- "A slice makes planned swaps until the order is the target, the next one has no room, or the budget is spent. The
 -- answer is then judged on the state left": over any state with an order, any rule of room and any plan.
-use Prim.Native.Nat.{ℕ, zero, suc, _+_, _-_, _≤_, _<_, zero-le}
+use Prim.Native.Nat.{ℕ, zero, suc, _+_, _-_, _≤_, _<_, zero-le, suc-le-suc}
 use mathlib.Core.Bool.{Bool, true, false, cond, not, _&&_}
 use mathlib.Core.List.{List, [], _∷_, foldr}
 use mathlib.Core.Logic.{_⊎_, inl, inr, ⊎-elim}
@@ -117,6 +117,10 @@ module _ {State : Type 0} (R : Relay State) (plan : Plan) (target : List ℕ) wh
       by true e h = g b s (made b (stepped s)) (after b (stepped s)) e h
       by false e h = r b s e
 
+  -- no more swaps than the budget
+  pub made-small : (b : ℕ) (s : State) → made b s ≤ b
+  made-small = by-turns (λ b s m t. m ≤ b) (λ s. zero-le) (λ b s e. zero-le) (λ b s m t e h. suc-le-suc h)
+
   -- ---- slices add up
 
   pub adds : (a b : ℕ) (s : State) → (after (a + b) s ≡ after b (after a s)) × (made (a + b) s ≡ made a s + made b (after a s))
@@ -146,6 +150,10 @@ module _ {State : Type 0} (R : Relay State) (plan : Plan) (target : List ℕ) wh
   abbrev pub Ended : State → Type 0
   Ended s = (judge s ≡ done) ⊎ (judge s ≡ noRoom (next s))
 
+  arrived-done : (s : State) → arrived s ≡ true → judge s ≡ done
+  unfolding judge
+  arrived-done s e = rw e
+
   rests-ended : (s : State) → goes s ≡ false → Ended s
   unfolding judge goes
   rests-ended s = by (arrived s) (R .fits s (next s))
@@ -166,10 +174,6 @@ module _ {State : Type 0} (R : Relay State) (plan : Plan) (target : List ℕ) wh
       by true f e = refl
       by false true e = cc
       by false false e = cc
-
-  arrived-done : (s : State) → arrived s ≡ true → judge s ≡ done
-  unfolding judge
-  arrived-done s e = rw e
 
   -- each slice spends its whole budget or ends in done or no room
   pub spends : (b : ℕ) (s : State) → (made b s ≡ b) ⊎ Ended (after b s)

@@ -1,16 +1,17 @@
 -- What Run answers and leaves, over the bytes: one outcome for each input; when it refuses; the table can be used again and every root keeps its value;
 -- the fall in left is the number of swaps; slices add up.
-use Prim.Native.Nat.{ℕ, zero, suc, _+_, _≤_, _<_, zero-le}
-use mathlib.Core.Bool.{Bool, true, false, cond, not, _&&_}
+use Prim.Native.Nat.{ℕ, _+_, _≤_, _<_}
+use mathlib.Core.Bool.{Bool, true, false, not, _&&_}
 use mathlib.Core.List.{List, [], _∷_, foldr}
 use mathlib.Core.Logic.{_⊎_, inl, inr, ⊎-elim}
 use mathlib.Core.Path.{_≡_, refl, ap, sym, _∙_}
 use native.Mathlib.Nat.{add-zero}
 use native.Mathlib.Omega.{arith}
-use borrow.Author.Tests.{eq-eqb}
+use borrow.Author.Tests.{eq-eqb, eqb-true, not-false}
+use lib.Dec.{eqb}
 use lib.ListN.{length}
 use Rattle.lists.specs.Says.{true-false}
-use Rattle.orders.specs.Permutation.{Permutation, permutation-then}
+use Rattle.orders.specs.Permutation.{Permutation, permutation-if, permutation-then}
 use Rattle.orders.specs.Exchange.{length-exchange}
 use Rattle.orders.specs.Inversions.{left}
 use Rattle.orders.specs.Plans.{bringUp, bring-up-lawful, reached, left-zero}
@@ -18,15 +19,18 @@ use Rattle.diagrams.specs.Layout.{rootCount, rootAt}
 use Rattle.diagrams.specs.Lookup.{lookup}
 use Rattle.diagrams.specs.Value.{value}
 use Rattle.checks.specs.Stages as stages
-use Rattle.checks.specs.Stages.{AllPass, also, only-passed, FailsFirst, clear-if, refused-if, refused-only}
+use Rattle.checks.specs.Stages.{AllPass, also, only-passed, passed-only, FailsFirst, clear-if, clear-only, refused-if, refused-only}
 use Rattle.checks.specs.Check.{tableStages, checkStages}
-use Rattle.checks.specs.Meaning.{sizes-then}
-use Rattle.checks.specs.Usable.{Usable, usable-then, all-pass}
+use Rattle.checks.specs.Meaning.{Sizes, sizes-if, sizes-then}
+use Rattle.checks.specs.Tests.{badSizes}
+use Rattle.checks.specs.Usable.{Usable, usable-if, usable-then, all-pass, passes-all}
 use Rattle.checks.specs.declared.Verdict as judged
 use Rattle.checks.specs.declared.Verdict.the-variants as verdict
+use Rattle.one_swap.specs.Record.{or-neither}
 use Rattle.one_swap.specs.Swap.{xAt, yAt}
-use Rattle.swaps.specs.Outcome.{fitsIn}
-use Rattle.swaps.specs.Bytes.{swap-usable, swap-root-value}
+use Rattle.swaps.specs.Outcome.{fitsIn, swapOf}
+use Rattle.swaps.specs.Bytes.{swap-usable, swap-root-value, made-is}
+use Rattle.swaps.specs.declared.Swapping.the-variants.{Made}
 use Rattle.slices.specs.Slices as over
 use Rattle.slices.specs.Slices.{Relay, RelayLaws, Verdict, done, noRoom, paused}
 use Rattle.slices.specs.Run.{State, relay, badRunSizes, runStages, answerOf, Ran, ranTo, runJudged, runOf, RunOutcome}
@@ -76,6 +80,12 @@ run-refuses-only t r o g b k x e = refused-only (runStages t r o g) k x (go (sta
     go verdict.Clear e = ran-not-refused r (over.slice (relay r) bringUp g b (record { table = t; order = o })) k x e
     go (verdict.Refused j y) e = let p : j ≡ k = cc in let q : y ≡ x = cc in rw (p, q)
 
+-- ---- the swap that a run makes is Swap's
+pub swap-steps : (r : List ℕ) (s : State) (k : ℕ) → swapOf (s .table) r (s .order) k .answer ≡ Made
+    → relay r .swapped s k ≡ record { table = swapOf (s .table) r (s .order) k .table; order = swapOf (s .table) r (s .order) k .order }
+unfolding relay
+swap-steps r s k e = rw (made-is (s .table) r (s .order) k e)
+
 -- ---- the numbers of an answer
 
 -- the swaps that an answer tells; a refusal has made none
@@ -114,31 +124,6 @@ unfolding answerOf
 answer-paused r m l s done i j e = let z : _≡_ {A = ℕ} 0 1 = cc in absurd (omega arith)
 answer-paused r m l s (noRoom k) i j e = let z : _≡_ {A = ℕ} 0 1 = cc in absurd (omega arith)
 answer-paused r m l s paused i j e = (refl, (cc), (cc))
-
--- ---- a slice makes no more swaps than its budget
-
-pub made-small : (r g : List ℕ) (b : ℕ) (s : State) → over.made (relay r) bringUp g b s ≤ b
-unfolding over.made
-made-small r g zero s = zero-le
-made-small r g (suc b) s = go (over.goes (relay r) bringUp g s) (made-small r g b (over.stepped (relay r) bringUp g s))
-  where
-    go : (c : Bool) → over.made (relay r) bringUp g b (over.stepped (relay r) bringUp g s) ≤ b → cond c (suc (over.made (relay r) bringUp g b (over.stepped (relay r) bringUp g s))) 0 ≤ suc b
-    go true h = omega arith
-    go false h = zero-le
-
-ran-small : (r g : List ℕ) (b : ℕ) (s : State) → swapsIn (ranTo r (over.slice (relay r) bringUp g b s) .answer) ≤ b
-unfolding ranTo over.slice
-ran-small r g b s =
-    let t : State = over.after (relay r) bringUp g b s in
-    omega (arith, made-small r g b s, answer-swaps r (over.made (relay r) bringUp g b s) (left (relay r .order t) g) t (over.judge (relay r) bringUp g t))
-
-pub run-small : (t r o g : List ℕ) (b : ℕ) → swapsIn (runOf t r o g b .answer) ≤ b
-unfolding runOf
-run-small t r o g b = go (stages.judge (runStages t r o g))
-  where
-    go : (v : judged.Verdict) → swapsIn (runJudged t r o g b v .answer) ≤ b
-    go verdict.Clear = ran-small r g b (record { table = t; order = o })
-    go (verdict.Refused k x) = zero-le
 
 -- ---- two answers as one: the swaps add up, all else is the later one's
 
@@ -303,6 +288,27 @@ module _ (t r o g : List ℕ) (usable : Usable t r o) (target : Permutation g) (
       let w = answer-paused r _ _ _ _ m l (sym (ap (λ (w : Ran). w .answer) (run-is b)) ∙ e) in
       over.ended-not-paused R bringUp g (over.after R bringUp g b s₀) (over.enough R bringUp g (Good r (length g)) laws bring-up-lawful target b s₀ good-start h) (w .0)
 
+-- ---- what passes Run's checks
+
+module _ (t r o g : List ℕ) where
+  pub run-sizes : badRunSizes t r o g ≡ false → Sizes t r o × (length g ≡ length o)
+  unfolding badRunSizes
+  run-sizes e =
+      let w = or-neither (badSizes t r o) (not (eqb (length g) (length o))) e in
+      (sizes-if t r o (w .0), eqb-true (length g) (length o) (not-false (eqb (length g) (length o)) (w .1)))
+
+  -- a run that isn't refused starts from a table that the relay can use, towards a permutation of its variables
+  pub run-starts : AllPass (runStages t r o g) → Usable t r o × Permutation g × (length g ≡ length o)
+  unfolding runStages checkStages
+  run-starts (also h (also p (also q rest))) =
+      let w = run-sizes (passed-only 0 h) in
+      (usable-if t r o (passes-all t r o (also (only-passed 0 (sizes-then t r o (w .0))) (also p rest))), permutation-if g q, w .1)
+
+  -- a refused run changes nothing, and so is refused again, whatever the budget
+  run-again : (k x : ℕ) → stages.judge (runStages t r o g) ≡ verdict.Refused k x → (b : ℕ) → runOf t r o g b ≡ record { answer = Refused k x; table = t; order = o }
+  unfolding runOf
+  run-again k x e b = ap (runJudged t r o g b) e
+
 -- ---- slices add up
 
 module _ (t r o g : List ℕ) (usable : Usable t r o) (target : Permutation g) (long : length g ≡ length o) where
@@ -320,32 +326,25 @@ module _ (t r o g : List ℕ) (usable : Usable t r o) (target : Permutation g) (
       ∙ rw (run-table t r o g usable target long a, run-order t r o g usable target long a)
 
   -- over the slices themselves
-  pub run-join : (a b : ℕ) → ranTo r (over.join (S a s₁) (S b (S a s₁ .state))) ≡ runOf t r o g (a + b)
+  run-join : (a b : ℕ) → ranTo r (over.join (S a s₁) (S b (S a s₁ .state))) ≡ runOf t r o g (a + b)
   run-join a b = ap (ranTo r) (over.slice-add (relay r) bringUp g a b s₁) ∙ sym (run-is t r o g usable target long (a + b))
 
-  -- two runs are one with the sum of their budgets
-  pub run-add : (a b : ℕ) → joined (runOf t r o g a) (runOf (runOf t r o g a .table) r (runOf t r o g a .order) g b) ≡ runOf t r o g (a + b)
-  run-add a b =
+  add-usable : (a b : ℕ) → joined (runOf t r o g a) (runOf (runOf t r o g a .table) r (runOf t r o g a .order) g b) ≡ runOf t r o g (a + b)
+  add-usable a b =
       ap (joined (runOf t r o g a)) (run-next a b)
       ∙ ap (λ w. joined w (ranTo r (S b (S a s₁ .state)))) (run-is t r o g usable target long a)
       ∙ ran-join r (S a s₁) (S b (S a s₁ .state))
       ∙ run-join a b
 
-  -- the same table and order are left
-  pub run-add-table : (a b : ℕ) → runOf (runOf t r o g a .table) r (runOf t r o g a .order) g b .table ≡ runOf t r o g (a + b) .table
-  run-add-table a b = ap (λ (w : Ran). w .table) (run-add a b)
-
-  pub run-add-order : (a b : ℕ) → runOf (runOf t r o g a .table) r (runOf t r o g a .order) g b .order ≡ runOf t r o g (a + b) .order
-  run-add-order a b = ap (λ (w : Ran). w .order) (run-add a b)
-
-  -- and any number of them
-  pub run-together : (b : ℕ) (rest : List ℕ) → ranTo r (over.together (relay r) bringUp g b rest s₁) ≡ runOf t r o g (b + foldr _+_ 0 rest)
-  run-together b rest = ap (ranTo r) (over.slices-add (relay r) bringUp g b rest s₁) ∙ sym (run-is t r o g usable target long (b + foldr _+_ 0 rest))
+-- two runs are one with the sum of their budgets, whatever the bytes
+pub run-add : (t r o g : List ℕ) (a b : ℕ) → joined (runOf t r o g a) (runOf (runOf t r o g a .table) r (runOf t r o g a .order) g b) ≡ runOf t r o g (a + b)
+run-add t r o g a b = go (stages.judge (runStages t r o g)) refl
+  where
+    go : (v : judged.Verdict) → stages.judge (runStages t r o g) ≡ v → joined (runOf t r o g a) (runOf (runOf t r o g a .table) r (runOf t r o g a .order) g b) ≡ runOf t r o g (a + b)
+    go verdict.Clear e = let w = run-starts t r o g (clear-only (runStages t r o g) e) in add-usable t r o g (w .0) (w .1) (w .2) a b
+    go (verdict.Refused k x) e = rw (run-again t r o g k x e a, run-again t r o g k x e b, run-again t r o g k x e (a + b))
 
 -- any number of runs are one with the sum of their budgets
-pub run-slices : (t r o g : List ℕ) → Usable t r o → Permutation g → length g ≡ length o → (b : ℕ) (rest : List ℕ) → runsOf t r o g b rest ≡ runOf t r o g (b + foldr _+_ 0 rest)
-run-slices t r o g usable target long b [] = ap (runOf t r o g) (sym (add-zero b))
-run-slices t r o g usable target long b (c ∷ rest) =
-    ap (joined (runOf t r o g b))
-    (run-slices (runOf t r o g b .table) r (runOf t r o g b .order) g (run-usable t r o g usable target long b) target (long ∙ sym (run-long t r o g usable target long b)) c rest)
-    ∙ run-add t r o g usable target long b (c + foldr _+_ 0 rest)
+pub run-slices : (t r o g : List ℕ) (b : ℕ) (rest : List ℕ) → runsOf t r o g b rest ≡ runOf t r o g (b + foldr _+_ 0 rest)
+run-slices t r o g b [] = ap (runOf t r o g) (sym (add-zero b))
+run-slices t r o g b (c ∷ rest) = ap (joined (runOf t r o g b)) (run-slices (runOf t r o g b .table) r (runOf t r o g b .order) g c rest) ∙ run-add t r o g b (c + foldr _+_ 0 rest)

@@ -1,20 +1,19 @@
 -- What the work area, the table and the entry hold at each way out, over plain variables.
-use Prim.Native.Nat.{ℕ, _+_, _-_, _*_, _/_, _%_, _≤_, _<_}
-use mathlib.Core.Bool.{Bool, true, false, cond}
-use mathlib.Core.List.{List, [], _∷_, _++_, append-nil}
-use mathlib.Core.Path.{_≡_, refl, ap, sym, _∙_, fun-ext}
+use Prim.Native.Nat.{ℕ, _+_, _-_, _*_, _%_, _≤_, _<_}
+use mathlib.Core.Bool.{true, false, cond}
+use mathlib.Core.List.{List, _++_, append-nil}
+use mathlib.Core.Path.{_≡_, refl, ap, sym, _∙_}
 use native.Mathlib.Nat.{le-refl}
 use native.Mathlib.Omega.{arith}
-use borrow.Author.Tests.{le-leb, lt-leb, leb-true}
-use lib.Dec.{leb}
+use borrow.Author.Tests.{le-leb, lt-leb}
 use lib.ListN.{length, getD, set, take, drop, drop-of-length-le}
 use lib.Seq.{take-at}
 use Rattle.lists.specs.Copy.{copied, copied-first}
-use Rattle.lists.specs.Fold.{fold, Steps, steps-end}
+use Rattle.lists.specs.Fold.{Steps, steps-end}
 use Rattle.lists.specs.Says.{true-false}
 use Rattle.lists.specs.Tabulate.{tabulate, tabulate-agrees}
 use Rattle.orders.specs.Exchange.{exchange}
-use Rattle.diagrams.specs.Layout.{recordSize, mostRecords, records, rootCount, isFree}
+use Rattle.diagrams.specs.Layout.{recordSize, records}
 use Rattle.diagrams.specs.Node.{Node, at}
 use Rattle.diagrams.specs.Decode.{decode, encode}
 use Rattle.diagrams.specs.Lookup.{rootsOf}
@@ -25,11 +24,11 @@ use Rattle.checks.specs.Check.{checkStages}
 use Rattle.checks.specs.Usable.{passes-all}
 use Rattle.checks.specs.declared.Verdict.{Verdict}
 use Rattle.checks.specs.declared.Verdict.the-variants as verdict
-use Rattle.one_swap.specs.Swap.{xAt, yAt, needed, freeCount, fits, after, swapped}
+use Rattle.one_swap.specs.Swap.{xAt, yAt, needed, freeCount, after, swapped}
 use Rattle.reckoning.specs.Reckoning.{News, namesOf, rewritten}
 use Rattle.reckoning.specs.Reckoned.{Reckoned, needed-is, free-count-is, fits-is, rewritten-is}
 use Rattle.swaps.specs.Bytes.{length-decode}
-use Rattle.swaps.specs.Outcome.{room-fits, room-lacks, fitsIn, roomOf, tableAfter, Prepared, RoomOutcome, noLevel, swapStages, Swapped, swapAfter, swapJudged, swapOf}
+use Rattle.swaps.specs.Outcome.{room-fits, room-lacks, fitsIn, roomOf, tableAfter, Prepared, RoomOutcome, noLevel, swapStages, swapAfter, swapJudged, swapOf}
 use Rattle.swaps.specs.declared.Room.{Room}
 use Rattle.swaps.specs.declared.Room.the-variants as room
 use Rattle.swaps.specs.declared.Swapping.the-variants.{Made, NoRoom, Refused}

@@ -11,7 +11,8 @@ use Rattle.diagrams.specs.Store.{laid, storedAt}
 use Rattle.diagrams.specs.declared.Fields.{Fields}
 use Rattle.reckoning.specs.Grands.{Grands}
 use Rattle.reckoning.specs.declared.kinds.Grandchildren.{Grandchildren}
-use Rattle.reckoning.specs.Reckoning.{News, settledAt, unnamed, buriedAt, crossedAt}
+use Rattle.reckoning.specs.Reckoning.{News, settledAt, unnamed, crossedAt}
+use Rattle.swaps.specs.Image.{buriedAt}
 
 -- ---- record i afterwards
 
@@ -26,12 +27,9 @@ crossed-is t y standing m p slots frees i f g u v e = rw (← g .is00, ← g .is
 
 -- ---- the image
 
-pub stored-entry : (l list : List ℕ) (k : ℕ) (f : Fields) (m : Node) {i : ℕ} {l′ : List ℕ} → i ≡ getD list k 0 → l′ ≡ storedAt l i (laid f) → laid f ≡ eight m → l′ ≡ storedAt l (getD list k 0) (eight m)
+-- a record that depends on its number
+pub stored-entry : (l list : List ℕ) (k : ℕ) (f : Fields) (m : ℕ → Node) {i : ℕ} {l′ : List ℕ} → i ≡ getD list k 0 → l′ ≡ storedAt l i (laid f) → laid f ≡ eight (m i) → l′ ≡ storedAt l (getD list k 0) (eight (m (getD list k 0)))
 stored-entry l list k f m p q e = rw (← p, ← e) q
-
--- the record depends on its number
-pub crossed-entry : (l list : List ℕ) (k : ℕ) (f : Fields) (m : ℕ → Node) {i : ℕ} {l′ : List ℕ} → i ≡ getD list k 0 → l′ ≡ storedAt l i (laid f) → laid f ≡ eight (m i) → l′ ≡ storedAt l (getD list k 0) (eight (m (getD list k 0)))
-crossed-entry l list k f m p q e = rw (← p, ← e) q
 
 module _ (names l : List ℕ) (i : ℕ) {b : Bool} (is : b ≡ unnamed names i) where
   pub buried : {l′ : List ℕ} (f : Fields) → b ≡ true → laid f ≡ eight free → l′ ≡ storedAt l i (laid f) → l′ ≡ buriedAt names l i

@@ -9,7 +9,7 @@ use Rattle.lists.specs.Below.{Below}
 use Rattle.lists.specs.Count.{count-small}
 use Rattle.lists.specs.Keep.{keep, which, keep-short, once-short, each-length, which-length}
 use Rattle.diagrams.specs.Layout.{recordSize, mostRecords, records}
-use Rattle.diagrams.specs.Node.{Node, at, ref, look}
+use Rattle.diagrams.specs.Node.{Node, at}
 use Rattle.diagrams.specs.Decode.{decode}
 use Rattle.diagrams.specs.Lookup.{rootsOf}
 use Rattle.checks.specs.Stages.{AllPass, also, stageAt, judge, passed-only, clear-only}
@@ -19,7 +19,7 @@ use Rattle.checks.specs.Theorems.{Bounded, refusal-small}
 use Rattle.checks.specs.declared.Verdict.{Verdict}
 use Rattle.checks.specs.declared.Verdict.the-variants as verdict
 use Rattle.one_swap.specs.Record.{isFreeNode, same}
-use Rattle.one_swap.specs.Swap.{xAt, yAt, asked, crossing, isNew, wanted, news, needed, freeCount}
+use Rattle.one_swap.specs.Swap.{xAt, yAt, bothAsked, crossing, isNew, wanted, news, needed, freeCount}
 use Rattle.swaps.specs.Outcome.{fitsIn, roomOf, noLevel, swapStages, swapAfter, swapJudged, swapOf, numbers}
 use Rattle.swaps.specs.declared.Room.the-variants as room
 
@@ -28,7 +28,7 @@ module _ (T : ℕ → Node) (N x y : ℕ) (roots : List ℕ) where
   wanted-small : length (wanted T N x y roots) ≤ 2 * N
   unfolding wanted
   wanted-small =
-      omega (arith, each-length (λ i. asked (look T) x y false (ref i) ∷ asked (look T) x y true (ref i) ∷ []) 2 (λ i. refl) (which (crossing T N x y roots) N), which-length (crossing T N x y roots) N, count-small (crossing T N x y roots) N)
+      omega (arith, each-length (bothAsked T N x y roots) 2 (λ i. refl) (which (crossing T N x y roots) N), which-length (crossing T N x y roots) N, count-small (crossing T N x y roots) N)
 
   pub needed-small : needed T N x y roots ≤ 2 * N
   unfolding needed news

@@ -1,12 +1,12 @@
 -- One swap of a stored table, over its bytes: it passes every check again, under the exchanged order, and every root keeps its value; when there is room; when Swap refuses.
-use Prim.Native.Nat.{ℕ, _+_, _*_, _%_, _≤_, _<_}
+use Prim.Native.Nat.{ℕ, _+_, _-_, _*_, _%_, _≤_, _<_}
 use native.Mathlib.Omega.{arith}
 use mathlib.Core.Bool.{Bool, true, false, cond, not}
-use mathlib.Core.List.{List}
+use mathlib.Core.List.{List, [], _∷_}
 use mathlib.Core.Logic.{inl, inr}
 use mathlib.Core.Path.{_≡_, refl, ap, sym, _∙_}
 use lib.ListN.{length, getD, take, drop, List·getD-eq-default}
-use borrow.Author.Tests.{leb-true, leb-false, le-leb}
+use borrow.Author.Tests.{leb-true, leb-false, le-leb, lt-leb}
 use Rattle.lists.specs.Says.{either-side, denies, says-leb}
 use Rattle.lists.specs.Total.{count-agrees}
 use Rattle.lists.specs.Tabulate.{length-tabulate, getD-tabulate}
@@ -22,9 +22,9 @@ use Rattle.diagrams.specs.Levels.{free-node}
 use Rattle.diagrams.specs.Diagram.{Diagram}
 use Rattle.diagrams.specs.Reduced.{diagram-of, look-plain}
 use Rattle.diagrams.specs.Value.{value}
-use Rattle.checks.specs.Stages.{FailsFirst, judge, refused-if, refused-only}
-use Rattle.checks.specs.Check.{used, checkOf}
-use Rattle.checks.specs.Usable.{Usable}
+use Rattle.checks.specs.Stages.{AllPass, also, both-rows, FailsFirst, stageAt, judge, passed-only, clear-if, clear-only, refused-if, refused-only, row-passes, place-passes}
+use Rattle.checks.specs.Check.{checkStages, used, checkOf}
+use Rattle.checks.specs.Usable.{Usable, usable-if, usable-then, all-pass, passes-all}
 use Rattle.checks.specs.Theorems.{accepts}
 use Rattle.checks.specs.declared.Verdict.{Verdict}
 use Rattle.checks.specs.declared.Verdict.the-variants as verdict
@@ -33,11 +33,11 @@ use Rattle.one_swap.specs.Record.{isUsedNode, isFreeNode, Behind, behind}
 use Rattle.one_swap.specs.Swap.{xAt, yAt, crosses, dies, needed, freeCount, fits, filled, dying, usedCount, swapped}
 use Rattle.one_swap.specs.Stored.{length-swapped}
 use Rattle.one_swap.specs.Theorem.{Cofactors, swap-diagram, swap-bryant, swap-root, swap-else, swap-count, cofactors}
-use Rattle.swaps.specs.Outcome.{fitsIn, roomOf, tableAfter, swapStages, Swapped, swapAfter, swapJudged, swapOf, SwapOutcome}
+use Rattle.swaps.specs.Outcome.{fitsIn, roomOf, tableAfter, noLevel, swapStages, Swapped, swapAfter, swapJudged, swapOf, SwapOutcome}
 use Rattle.swaps.specs.declared.Room.{Room}
 use Rattle.swaps.specs.declared.Room.the-variants as room
 use Rattle.swaps.specs.declared.Swapping.{Swapping}
-use Rattle.swaps.specs.declared.Swapping.the-variants.{Refused}
+use Rattle.swaps.specs.declared.Swapping.the-variants.{Made, NoRoom, Refused}
 
 -- ---- as many records as before
 
@@ -248,6 +248,64 @@ module _ (t r : List ℕ) (x y : ℕ) where
   no-room-exactly n f = (λ w. rw (w .1, w .2) (no-room (w .0)), no-room-only n f)
 
 -- ---- the entry
+
+-- Swap of a table that is accepted, at two levels of its order
+module _ (t r o : List ℕ) (k : ℕ) (usable : Usable t r o) (level : k + 1 < length o) where
+  swap-clear : judge (swapStages t r o k) ≡ verdict.Clear
+  unfolding swapStages
+  swap-clear =
+      sym (row-passes (checkStages t r o) (stageAt 12 k (noLevel o k) ∷ []) refl (clear-if (checkStages t r o) (all-pass t r o (usable-then t r o usable)))
+      (place-passes 12 k (noLevel o k) false verdict.Clear verdict.Clear (sym (lt-leb (length o - 1) k (omega arith))) refl refl))
+
+  swap-is : swapOf t r o k ≡ swapAfter t r o k (roomOf t r (xAt o k) (yAt o k))
+  unfolding swapOf
+  swap-is = ap (swapJudged t r o k) swap-clear
+
+  -- made exactly when needed is not above free
+  pub swap-made : Needed t r (xAt o k) (yAt o k) ≤ Free t r (xAt o k) (yAt o k) → swapOf t r o k ≡ record { answer = Made; table = tableAfter t r (xAt o k) (yAt o k); order = exchange o k }
+  swap-made h = swap-is ∙ ap (swapAfter t r o k) (room-made t r (xAt o k) (yAt o k) h)
+
+  -- "No room is given exactly when needed is above free", with these two; and then nothing changes
+  pub swap-lacks : Free t r (xAt o k) (yAt o k) < Needed t r (xAt o k) (yAt o k)
+      → swapOf t r o k ≡ record { answer = NoRoom k (Needed t r (xAt o k) (yAt o k)) (Free t r (xAt o k) (yAt o k)); table = t; order = o }
+  swap-lacks h = swap-is ∙ ap (swapAfter t r o k) (no-room t r (xAt o k) (yAt o k) h)
+
+-- and of no other one: what isn't refused was accepted, and has the two levels
+module _ (t r o : List ℕ) (k : ℕ) where
+  swap-starts : AllPass (swapStages t r o k) → Usable t r o × (k + 1 < length o)
+  unfolding swapStages
+  swap-starts p =
+      let w = both-rows (checkStages t r o) (stageAt 12 k (noLevel o k) ∷ []) p in
+      (usable-if t r o (passes-all t r o (w .0)), there (w .1))
+    where
+      there : AllPass (stageAt 12 k (noLevel o k) ∷ []) → k + 1 < length o
+      there (also h rest) = omega (arith, leb-false (length o - 1) k (passed-only k h))
+
+  made-clear : (v : Verdict) → swapJudged t r o k v .answer ≡ Made → v ≡ verdict.Clear
+  made-clear verdict.Clear e = refl
+  made-clear (verdict.Refused n p) e = let z : _≡_ {A = ℕ} 0 1 = cc in absurd (omega arith)
+
+  pub made-only : swapOf t r o k .answer ≡ Made → (Usable t r o × (k + 1 < length o)) × (fitsIn t r (xAt o k) (yAt o k) ≡ true)
+  unfolding swapOf
+  made-only e =
+      let c : judge (swapStages t r o k) ≡ verdict.Clear = made-clear (judge (swapStages t r o k)) e in
+      (swap-starts (clear-only (swapStages t r o k) c), fits-if t r (xAt o k) (yAt o k) (room-made-only t r (xAt o k) (yAt o k) (go (roomOf t r (xAt o k) (yAt o k)) (rw c at e))))
+    where
+      go : (a : Room) → swapAfter t r o k a .answer ≡ Made → a ≡ room.Made
+      go room.Made q = refl
+      go (room.NoRoom n f) q = let z : _≡_ {A = ℕ} 0 1 = cc in absurd (omega arith)
+
+  -- so a made swap leaves an accepted table under the exchanged order, and every root's values
+  module _ (made : swapOf t r o k .answer ≡ Made) where
+    pub made-is : swapOf t r o k ≡ record { answer = Made; table = tableAfter t r (xAt o k) (yAt o k); order = exchange o k }
+    made-is = let w = made-only made in swap-made t r o k (w .0 .0) (w .0 .1) (fits-then t r (xAt o k) (yAt o k) (w .1))
+
+    pub made-usable : Usable (swapOf t r o k .table) r (swapOf t r o k .order)
+    made-usable = let w = made-only made in rw made-is (swap-usable t r o k (w .0 .0) (w .0 .1) (w .1))
+
+    pub made-root-value : (inputs : ℕ → Bool) (position : ℕ) → position < rootCount r
+        → value (lookup (swapOf t r o k .table)) inputs (length o) (rootAt r position) ≡ value (lookup t) inputs (length o) (rootAt r position)
+    made-root-value inputs position b = let w = made-only made in rw made-is (swap-root-value t r o k (w .0 .0) (w .0 .1) (w .1) inputs position b)
 
 -- one outcome for each input
 pub swap-one : (t r o : List ℕ) (k : ℕ) {a b : Swapping} {t₁ t₂ o₁ o₂ : List ℕ} → SwapOutcome t r o k a t₁ o₁ → SwapOutcome t r o k b t₂ o₂ → (a ≡ b) × (t₁ ≡ t₂) × (o₁ ≡ o₂)

@@ -15,7 +15,26 @@ use Rattle.diagrams.specs.Layout.{recordSize, records, isFree}
 use Rattle.diagrams.specs.Node.{Node, free}
 use Rattle.diagrams.specs.Decode.{nodeAt, eight, encode}
 use Rattle.diagrams.specs.Store.{storedAt, stores-encode, stores-where}
-use Rattle.reckoning.specs.Reckoning.{ofAt, crossesAt, News, unnamed, copiedAt, buriedAt, newNode, placedAt, crossedAt, crossedInto, rewritten}
+use Rattle.reckoning.specs.Reckoning.{ofAt, crossesAt, News, unnamed, newNode, crossedAt, rewritten}
+
+-- ---- one record stored: of the table, then what dies, what is new and what crosses
+
+abbrev pub copiedAt : List ℕ → List ℕ → ℕ → List ℕ
+copiedAt t l i = storedAt l i (eight (nodeAt t i))
+
+-- a y record without a name
+unfoldable pub buriedAt : List ℕ → List ℕ → ℕ → List ℕ
+buriedAt names l i = cond (unnamed names i) (storedAt l i (eight free)) l
+
+-- new record j
+abbrev pub placedAt : ℕ → News → List ℕ → List ℕ → ℕ → List ℕ
+placedAt x p slots l j = storedAt l (getD slots j 0) (eight (newNode x p j))
+
+-- a crossing record
+abbrev pub crossedInto : List ℕ → ℕ → List ℕ → ℕ → News → List ℕ → ℕ → List ℕ → ℕ → List ℕ
+crossedInto t y standing count p slots frees l i = storedAt l i (eight (crossedAt t y standing count p slots frees i))
+
+-- ---- the whole image
 
 module _ (t : List ℕ) (d : List ℕ) where
   -- the bytes of a record for each of the table's, and what stands after them

@@ -1,3 +1,4 @@
+pub mod Work
 pub mod Image
 pub mod Outcome
 pub mod Bytes

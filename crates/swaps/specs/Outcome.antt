@@ -1,5 +1,5 @@
 -- Swap: "levels k and k+1: made, no room (level k, needed, free), or 1, 2, 4 to 9, 12". The whole outcome, over the bytes.
-use Prim.Native.Nat.{ℕ, _+_, _-_}
+use Prim.Native.Nat.{ℕ, _-_}
 use mathlib.Core.Bool.{Bool, true, false, cond}
 use mathlib.Core.List.{List, [], _∷_, _++_}
 use mathlib.Core.Path.{_≡_, refl, ap, sym, _∙_}
@@ -60,6 +60,7 @@ pub record Swapped : Type 0 where
   pub table : List ℕ
   pub order : List ℕ
 
+-- "The two order bytes are exchanged."; without room nothing is
 abbrev pub swapAfter : List ℕ → List ℕ → List ℕ → ℕ → Room → Swapped
 swapAfter t r o k room.Made = record { answer = Made; table = tableAfter t r (xAt o k) (yAt o k); order = exchange o k }
 swapAfter t r o k (room.NoRoom needed free) = record { answer = NoRoom k needed free; table = t; order = o }

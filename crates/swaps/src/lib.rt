@@ -1,11 +1,11 @@
-// Swap two neighbouring levels of a stored diagram. The reckoning reads the table and prepares the table afterwards in a work area;
+// Swap two neighbouring levels of a stored diagram. The reckoning reads the table, `rewrite` puts the table afterwards into an image;
 // the lent buffers are written only when everything is known.
 ghost use mathlib.Core.Path.{_≡_};
 ghost use Prim.Native.Nat.{_*_, _≤_, _<_};
 ghost use lib.ListN.{length, take};
 ghost use Rattle.diagrams.specs.Layout.{mostRecords, recordSize};
 ghost use Rattle.checks.specs.Meaning.{Sized};
-ghost use Rattle.swaps.specs.Outcome.{roomOf, tableAfter, Prepared, RoomOutcome, SwapOutcome};
+ghost use Rattle.swaps.specs.Outcome.{roomOf, Prepared, RoomOutcome, SwapOutcome};
 
 mod rewrite;
 
@@ -39,12 +39,6 @@ pub enum Swapping {
 
 // ---- the work area
 
-fn no_news() -> [u16; 4 * MOST_RECORDS]
-    ensures { λ l. ⌜ length l ≡ 4 * mostRecords ⌝ }
-{
-    [0u16; 4 * MOST_RECORDS]
-}
-
 fn no_image() -> [u8; RECORD_SIZE * MOST_RECORDS] {
     [0u8; RECORD_SIZE * MOST_RECORDS]
 }
@@ -57,30 +51,30 @@ fn prepare(table: &[u8], roots: &[u8], x: Variable, y: Variable, image: &mut [u8
     let mut crossing = collect::no_entries();
     let mut standing = collect::no_entries();
     let mut slots = collect::no_entries();
-    let mut news = no_news();
-    let parts = collect::collect_upper(table, x, y, &mut crossing, &mut standing);
+    let mut news = news::no_news();
+    let split = collect::collect_x(table, x, y, &mut crossing, &mut standing);
     let free = collect::collect_free(table, &mut slots);
     let needed = news::reckon(
         table,
         y,
         &standing,
-        parts.standing,
+        split.standing,
         &crossing,
-        parts.crossing,
+        split.crossing,
         &mut news,
     );
     if free < needed {
         return Room::NoRoom { needed, free };
     }
-    let mut lower = collect::no_entries();
-    let lowers = collect::collect_of(table, y, &mut lower);
-    let names = names::count_names(table, roots, x, &standing, parts.standing);
+    let mut ys = collect::no_entries();
+    let y_count = collect::collect_of(table, y, &mut ys);
+    let names = names::count_names(table, roots, x, &standing, split.standing);
     let q = Numbers {
         x,
         y,
-        crossing: parts.crossing,
-        standing: parts.standing,
-        lower: lowers,
+        crossing: split.crossing,
+        standing: split.standing,
+        ys: y_count,
         needed,
         free,
     };
@@ -88,7 +82,7 @@ fn prepare(table: &[u8], roots: &[u8], x: Variable, y: Variable, image: &mut [u8
         table,
         &crossing,
         &standing,
-        &lower,
+        &ys,
         &news,
         &slots,
         &names,

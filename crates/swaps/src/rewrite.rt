@@ -1,9 +1,9 @@
-// The table afterwards, in the work area.
+// The table afterwards, in the image.
 ghost use mathlib.Core.Path.{_≡_};
 ghost use mathlib.Core.Bool.{false};
 ghost use mathlib.Core.List.{_++_};
 ghost use Prim.Native.Nat.{_+_, _*_, _<_, _≤_};
-ghost use lib.ListN.{length, getD, drop};
+ghost use lib.ListN.{length, drop};
 ghost use Rattle.lists.specs.Collect.{Collected};
 ghost use Rattle.lists.specs.Entries.{through};
 ghost use Rattle.lists.specs.Fold.{fold};
@@ -11,10 +11,10 @@ ghost use Rattle.lists.specs.Tabulate.{tabulate};
 ghost use Rattle.diagrams.specs.Layout.{recordSize, records, isFree};
 ghost use Rattle.diagrams.specs.Decode.{eight, encode};
 ghost use Rattle.diagrams.specs.Store.{laid, Fit};
-ghost use Rattle.diagrams.specs.Node.{node};
 ghost use Rattle.reckoning.specs.Inside.{Inside, InUse};
-ghost use Rattle.reckoning.specs.Reckoning.{ofAt, crossesAt, News, crossedAt, copiedAt, buriedAt, placedAt, crossedInto, rewritten};
-ghost use Rattle.reckoning.specs.Reckoned.{Reckoned};
+ghost use Rattle.reckoning.specs.Reckoning.{ofAt, crossesAt, newNode, crossedAt, rewritten};
+ghost use Rattle.swaps.specs.Work.{newsIn, Filled};
+ghost use Rattle.swaps.specs.Image.{copiedAt, buriedAt, placedAt, crossedInto};
 use diagrams::Fields;
 use diagrams::RECORD_SIZE;
 use diagrams::RecordNumber;
@@ -31,7 +31,7 @@ pub struct Numbers {
     pub y: Variable,
     pub crossing: usize,
     pub standing: usize,
-    pub lower: usize,
+    pub ys: usize,
     pub needed: usize,
     pub free: usize,
 }
@@ -39,7 +39,7 @@ pub struct Numbers {
 // A new record.
 fn fresh(news: &[u16], x: Variable, k: usize) -> Fields
     requires { ⌜ (2 * k + 2 ≤ length (now news)) × (x .0 < 256) ⌝ }
-    ensures { λ f. ⌜ (laid f ≡ eight (node (x .0) (getD (now (news .entry)) (2 * k) 0) (getD (now (news .entry)) (2 * k + 1) 0))) × Fit f ⌝ }
+    ensures { λ f. ⌜ (laid f ≡ eight (newNode (x .0) (record { list = now (news .entry); count = 0 }) k)) × Fit f ⌝ }
 {
     let low = Reference(collect::wide(news[2 * k]));
     let high = Reference(collect::wide(news[2 * k + 1]));
@@ -55,8 +55,8 @@ fn crossed(
     q: Numbers,
     i: RecordNumber,
 ) -> Fields
-    requires { ⌜ (Reckoned (now table) (q .x .0) (q .y .0) (now standing) (q .standing) (record { list = now news; count = q .needed }) (now slots) (q .free) × (q .y .0 < 256)) × ((recordSize * i .0 + recordSize ≤ length (now table)) × (isFree (now table) (i .0) ≡ false)) ⌝ }
-    ensures { λ f. ⌜ (laid f ≡ eight (crossedAt (now (table .entry)) (q .y .0) (now (standing .entry)) (q .standing) (record { list = now (news .entry); count = q .needed }) (now (slots .entry)) (q .free) (i .0))) × Fit f ⌝ }
+    requires { ⌜ (Filled (now table) (now standing) (now news) (now slots) q × (q .y .0 < 256)) × ((recordSize * i .0 + recordSize ≤ length (now table)) × (isFree (now table) (i .0) ≡ false)) ⌝ }
+    ensures { λ f. ⌜ (laid f ≡ eight (crossedAt (now (table .entry)) (q .y .0) (now (standing .entry)) (q .standing) (newsIn (now (news .entry)) q) (now (slots .entry)) (q .free) (i .0))) × Fit f ⌝ }
 {
     let y = q.y;
     let g = kinds::four(table, y, i);
@@ -101,7 +101,7 @@ fn copy_records(table: &[u8], image: &mut [u8])
 }
 
 fn bury_unnamed(names: &[u16], i: RecordNumber, image: &mut [u8])
-    requires { ⌜ (recordSize * i .0 + recordSize ≤ length (now image)) × (i .0 + 2 < length (now names)) ⌝ }
+    requires { ⌜ (recordSize * i .0 + recordSize ≤ length (now image)) × ((i .0 + 2 < length (now names)) × (i .0 < 65536)) ⌝ }
     ensures { λ _. ⌜ now (image .exit) ≡ buriedAt (now (names .entry)) (now (image .entry)) (i .0) ⌝ }
 {
     if names::is_unnamed(names, i) {
@@ -110,13 +110,13 @@ fn bury_unnamed(names: &[u16], i: RecordNumber, image: &mut [u8])
 }
 
 // The y records that nobody names any more become free.
-fn bury(lower: &[u16], count: usize, names: &[u16], image: &mut [u8])
-    requires { ⌜ Inside (now image) (now lower) count × (records (now image) + 2 ≤ length (now names)) ⌝ }
-    ensures { λ _. ⌜ now (image .exit) ≡ fold (through (now (lower .entry)) (buriedAt (now (names .entry)))) (now (image .entry)) count ⌝ }
+fn bury(ys: &[u16], count: usize, names: &[u16], image: &mut [u8])
+    requires { ⌜ Inside (now image) (now ys) count × (records (now image) + 2 ≤ length (now names)) ⌝ }
+    ensures { λ _. ⌜ now (image .exit) ≡ fold (through (now (ys .entry)) (buriedAt (now (names .entry)))) (now (image .entry)) count ⌝ }
 {
     let mut k = 0;
     while k < count {
-        bury_unnamed(names, collect::entry(lower, k), image);
+        bury_unnamed(names, collect::entry(ys, k), image);
         k += 1;
     }
 }
@@ -144,8 +144,8 @@ fn cross_all(
     count: usize,
     image: &mut [u8],
 )
-    requires { ⌜ (Reckoned (now table) (q .x .0) (q .y .0) (now standing) (q .standing) (record { list = now news; count = q .needed }) (now slots) (q .free) × (q .y .0 < 256)) × (InUse (now table) (now crossing) count × (length (now table) ≤ length (now image))) ⌝ }
-    ensures { λ _. ⌜ now (image .exit) ≡ fold (through (now (crossing .entry)) (crossedInto (now (table .entry)) (q .y .0) (now (standing .entry)) (q .standing) (record { list = now (news .entry); count = q .needed }) (now (slots .entry)) (q .free))) (now (image .entry)) count ⌝ }
+    requires { ⌜ (Filled (now table) (now standing) (now news) (now slots) q × (q .y .0 < 256)) × (InUse (now table) (now crossing) count × (length (now table) ≤ length (now image))) ⌝ }
+    ensures { λ _. ⌜ now (image .exit) ≡ fold (through (now (crossing .entry)) (crossedInto (now (table .entry)) (q .y .0) (now (standing .entry)) (q .standing) (newsIn (now (news .entry)) q) (now (slots .entry)) (q .free))) (now (image .entry)) count ⌝ }
 {
     let mut k = 0;
     while k < count {
@@ -160,18 +160,18 @@ pub fn rewrite(
     table: &[u8],
     crossing: &[u16],
     standing: &[u16],
-    lower: &[u16],
+    ys: &[u16],
     news: &[u16],
     slots: &[u16],
     names: &[u16],
     q: Numbers,
     image: &mut [u8],
 )
-    requires { ⌜ ((Reckoned (now table) (q .x .0) (q .y .0) (now standing) (q .standing) (record { list = now news; count = q .needed }) (now slots) (q .free) × (q .needed ≤ q .free)) × ((q .x .0 < 256) × (q .y .0 < 256))) × ((Collected (crossesAt (now table) (q .x .0) (q .y .0)) (records (now table)) (now crossing) (q .crossing) × Collected (ofAt (now table) (q .y .0)) (records (now table)) (now lower) (q .lower)) × ((length (now table) ≤ length (now image)) × (records (now image) + 2 ≤ length (now names)))) ⌝ }
-    ensures { λ _. ⌜ now (image .exit) ≡ encode (tabulate (records (now (table .entry))) (rewritten (now (table .entry)) (q .x .0) (q .y .0) (now (standing .entry)) (q .standing) (record { list = now (news .entry); count = q .needed }) (now (slots .entry)) (q .free) (now (names .entry)))) ++ drop (recordSize * records (now (table .entry))) (now (image .entry)) ⌝ }
+    requires { ⌜ ((Filled (now table) (now standing) (now news) (now slots) q × (q .needed ≤ q .free)) × ((q .x .0 < 256) × (q .y .0 < 256))) × ((Collected (crossesAt (now table) (q .x .0) (q .y .0)) (records (now table)) (now crossing) (q .crossing) × Collected (ofAt (now table) (q .y .0)) (records (now table)) (now ys) (q .ys)) × ((length (now table) ≤ length (now image)) × (records (now image) + 2 ≤ length (now names)))) ⌝ }
+    ensures { λ _. ⌜ now (image .exit) ≡ encode (tabulate (records (now (table .entry))) (rewritten (now (table .entry)) (q .x .0) (q .y .0) (now (standing .entry)) (q .standing) (newsIn (now (news .entry)) q) (now (slots .entry)) (q .free) (now (names .entry)))) ++ drop (recordSize * records (now (table .entry))) (now (image .entry)) ⌝ }
 {
     copy_records(table, image);
-    bury(lower, q.lower, names, image);
+    bury(ys, q.ys, names, image);
     place_news(q.x, news, q.needed, slots, image);
     cross_all(table, standing, news, slots, q, crossing, q.crossing, image);
 }

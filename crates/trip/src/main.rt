@@ -1,7 +1,6 @@
 // Reads a store from the files of the working folder, brings it to its target and prints what came of it. It writes to no file.
-ghost use Prim.Native.Nat.{_≤_};
 ghost use lib.ListN.{length};
-ghost use Rattle.trip.specs.File.{Within};
+ghost use Rattle.trip.specs.File.{Within, Held};
 use diagrams::MOST_RECORDS;
 use diagrams::MOST_ROOTS;
 use diagrams::RECORD_SIZE;
@@ -55,7 +54,7 @@ fn load(path: &[u8], buffer: &mut [u8]) -> File
 
 // Prints an answer and its listing in one write.
 fn print(answer: Slice, table: &[u8], roots: &[u8], order: &[u8])
-    requires { ⌜ (length (now table) ≤ 32769) × (length (now roots) ≤ 129) × (length (now order) ≤ 33) ⌝ }
+    requires { ⌜ Held (now table) (now roots) (now order) ⌝ }
 {
     let mut text = [0u8; listing::MOST_TEXT];
     let n = listing::print(&mut text, answer, table, roots, order);
@@ -65,7 +64,7 @@ fn print(answer: Slice, table: &[u8], roots: &[u8], order: &[u8])
 }
 
 fn run(table: &mut [u8], roots: &[u8], order: &mut [u8], target: &[u8])
-    requires { ⌜ (length (now table) ≤ 32769) × (length (now roots) ≤ 129) × (length (now order) ≤ 33) ⌝ }
+    requires { ⌜ Held (now table) (now roots) (now order) ⌝ }
 {
     let answer = slices::run(table, roots, order, target, u32::MAX);
     print(answer, table, roots, order);

@@ -1,7 +1,6 @@
 use Prim.Native.Nat.{_-_}
 use mathlib.Core.Path.{refl}
 use native.Mathlib.Omega.{arith}
-use lib.ListN.{length-set}
 use borrow.Author.Needs.{needs}
 use Rattle.listing.proofs.Laws.{Copied, copied-begin, copied-go, copied-end}
 use Rattle.listing.proofs.put.Statement.{statement}

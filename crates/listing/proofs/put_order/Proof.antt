@@ -3,7 +3,6 @@ use Rattle.listing.specs.Text.{bytes, joined, variableText, orderLine}
 use denote.Ref.{now}
 use lib.ListN.{length}
 use mathlib.Core.List.{_++_}
-use Rattle.diagrams.specs.Layout.{rootCount}
 use borrow.Author.Needs.{needs}
 use Rattle.listing.proofs.put_order.Statement.{statement}
 use Rattle.listing.proofs.put_order.Tie as tie

@@ -1,7 +1,6 @@
 use Rattle.listing.specs.Put.{room-first, room-next, put-both}
 use Rattle.listing.specs.Text.{bytes, joined, rootText, rootsLine}
 use denote.Ref.{now}
-use lib.ListN.{length}
 use mathlib.Core.List.{_++_}
 use Rattle.diagrams.specs.Layout.{rootCount}
 use borrow.Author.Needs.{needs}

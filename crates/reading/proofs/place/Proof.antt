@@ -1,5 +1,6 @@
 use borrow.Author.Needs.{needs}
-use Rattle.reading.proofs.Laws.{showing, no-constant}
+use Rattle.diagrams.specs.Node.{no-constant}
+use Rattle.reading.proofs.Laws.{showing}
 use Rattle.reading.proofs.place.Statement.{statement}
 use Rattle.reading.proofs.place.Tie as tie
 

@@ -1,4 +1,3 @@
-use mathlib.Core.Path.{refl}
 use borrow.Author.Needs.{needs}
 use Rattle.reading.proofs.show.Statement.{statement}
 use Rattle.reading.proofs.show.Tie as tie

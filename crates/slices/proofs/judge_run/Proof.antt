@@ -1,7 +1,8 @@
+use Rattle.lists.specs.First.{passed-all}
 use native.Mathlib.Omega.{arith}
 use borrow.Author.Needs.{needs}
 use Rattle.slices.specs.Run.{runStages}
-use Rattle.slices.proofs.Laws.{sizes-right, passed-all, refusing}
+use Rattle.slices.proofs.Laws.{sizes-right, refusing}
 use Rattle.slices.proofs.judge_run.Statement.{statement}
 use Rattle.slices.proofs.judge_run.Tie as tie
 

@@ -1,10 +1,12 @@
-use Prim.Native.Nat.{ℕ, _≤_}
+use Prim.Native.Nat.{ℕ, _+_, _*_, _≤_}
 use mathlib.Core.List.{List}
 use mathlib.Core.Path.{_≡_, sym}
 use native.Mathlib.Omega.{arith}
 use borrow.Author.Needs.{needs}
 use lib.ListN.{length, take}
 use lib.Seq.{length-take-le}
+use Rattle.diagrams.specs.Layout.{recordSize, rootSize, mostRecords, mostRoots}
+use Rattle.orders.specs.Permutation.{ceiling}
 use Rattle.trip.specs.File.{Within}
 use Rattle.trip.specs.declared.File.{File}
 use Rattle.trip.specs.declared.File.the-variants.{Bytes}
@@ -56,9 +58,9 @@ slice-aggregate-run-4 c = sym (length-take-le _ _ (target-in (c .before .before 
 
 run-requires : tie.Need-run-requires
 run-requires c κs = (
-  part-short _ 32769 _ (table-in (c .before .before .before .before .before .before .before .before .before .before .before .before .before .before .before .before .before .before .before .before .before .before .before .before .before .before)) (c .before .before .before .before .before .before .before .before .before .before .before .before .before .before .before .before .before .before .before .before .before .before .before .before .before .before .before .before .before .load .kept .1 .0),
-  part-short _ 129 _ (roots-in (c .before .before .before .before .before .before .before .before .before .before .before .before .before .before .before .before .before .before .before)) (c .before .before .before .before .before .before .before .before .before .before .before .before .before .before .before .before .before .before .before .before .before .before .load2 .kept .1 .0),
-  part-short _ 33 _ (order-in (c .before .before .before .before .before .before .before .before .before .before .before .before)) (c .before .before .before .before .before .before .before .before .before .before .before .before .before .before .before .load3 .kept .1 .0),
+  part-short _ (recordSize * mostRecords + 1) _ (table-in (c .before .before .before .before .before .before .before .before .before .before .before .before .before .before .before .before .before .before .before .before .before .before .before .before .before .before)) (c .before .before .before .before .before .before .before .before .before .before .before .before .before .before .before .before .before .before .before .before .before .before .before .before .before .before .before .before .before .load .kept .1 .0),
+  part-short _ (rootSize * mostRoots + 1) _ (roots-in (c .before .before .before .before .before .before .before .before .before .before .before .before .before .before .before .before .before .before .before)) (c .before .before .before .before .before .before .before .before .before .before .before .before .before .before .before .before .before .before .before .before .before .before .load2 .kept .1 .0),
+  part-short _ (ceiling + 1) _ (order-in (c .before .before .before .before .before .before .before .before .before .before .before .before)) (c .before .before .before .before .before .before .before .before .before .before .before .before .before .before .before .load3 .kept .1 .0),
 )
 
 pub main-spec : {M : Type 1} → statement M

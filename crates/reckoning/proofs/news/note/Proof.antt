@@ -11,7 +11,7 @@ note-spec =
     (tie.spec
     (λ c. (search note-same, omega arith))
     (λ c κs. search needs)
-    (λ c. (search note-stands, omega arith))
+    (λ c. (note-stands _ _ _ _ _ _ _ (c .before .find-standing .ensures) (c .before .before .if1 .left) (omega arith), omega arith))
     (λ c κs. search needs)
     (λ c. search needs)
     (λ c. (note-known _ _ _ _ _ _ _ (c .before .before .before .before .find-standing .ensures) (c .before .before .before .before .before .if1 .left) (c .before .find-new .ensures) (omega arith) (omega arith), omega arith))

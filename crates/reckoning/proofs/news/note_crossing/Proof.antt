@@ -9,7 +9,7 @@ note-crossing-spec =
     tie.close
     (tie.spec
     (λ c κs. search needs)
-    (λ c κs. ((c .before .before .before .before .before .pre .0 .0, omega arith), (c .before .four .ensures .small00, c .before .four .ensures .small10)))
-    (λ c κs. ((c .before .before .before .before .before .before .before .before .before .pre .0 .0, omega (arith, c .before .before .before .note .ensures .1)), (c .before .before .before .before .before .four .ensures .small01, c .before .before .before .before .before .four .ensures .small11)))
+    (λ c κs. ((c .before .before .before .before .before .pre .0 .0, omega arith), (omega (arith, c .before .four .ensures .small00, c .before .four .ensures .small01), omega (arith, c .before .four .ensures .small10, c .before .four .ensures .small11))))
+    (λ c κs. ((c .before .before .before .before .before .before .before .before .before .pre .0 .0, omega (arith, c .before .before .before .note .ensures .1)), (omega (arith, c .before .before .before .before .before .four .ensures .small00, c .before .before .before .before .before .four .ensures .small01), omega (arith, c .before .before .before .before .before .four .ensures .small10, c .before .before .before .before .before .four .ensures .small11))))
     (λ c. search needs)
     (λ c. (crossing-notes _ _ _ _ _ _ (c .before .before .before .before .before .before .before .before .four .ensures) (c .before .before .before .before .before .before .note .ensures .0) (c .before .before .note2 .ensures .0), omega (arith, c .before .before .before .before .before .before .note .ensures .1, c .before .before .note2 .ensures .1))))

@@ -3,11 +3,4 @@ use Rattle.reckoning.proofs.news.slot.Statement.{statement}
 use Rattle.reckoning.proofs.news.slot.Tie as tie
 
 pub slot-spec : {M : Type 1} → statement M
-slot-spec =
-    tie.close
-    (tie.spec
-    (λ c. search settling)
-    (λ c. search settling)
-    (λ c κs. search settling)
-    (λ c. search settling)
-    (λ c. search settling))
+slot-spec = tie.close (tie.spec (λ c κs. search settling) (λ c. search settling) (λ c. search settling))

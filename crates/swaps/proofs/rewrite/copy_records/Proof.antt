@@ -4,7 +4,7 @@ use mathlib.Core.Path.{_≡_, ap, _∙_}
 use lib.ListN.{length}
 use Rattle.lists.specs.Fold.{Steps, steps-go, steps}
 use Rattle.diagrams.specs.Store.{storedAt}
-use Rattle.reckoning.specs.Reckoning.{copiedAt}
+use Rattle.swaps.specs.Image.{copiedAt}
 use Rattle.swaps.proofs.rewrite.copy_records.Statement.{statement}
 use Rattle.swaps.proofs.rewrite.copy_records.Tie as tie
 

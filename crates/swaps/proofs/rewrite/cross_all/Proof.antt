@@ -4,8 +4,9 @@ use mathlib.Core.Path.{_≡_}
 use lib.ListN.{length}
 use Rattle.lists.specs.Fold.{Steps, steps-go, steps}
 use Rattle.lists.specs.Entries.{through}
-use Rattle.reckoning.specs.Reckoning.{crossedAt, crossedInto}
-use Rattle.swaps.proofs.Laws.{crossed-entry}
+use Rattle.reckoning.specs.Reckoning.{crossedAt}
+use Rattle.swaps.specs.Image.{crossedInto}
+use Rattle.swaps.proofs.Laws.{stored-entry}
 use Rattle.swaps.proofs.rewrite.cross_all.Statement.{statement}
 use Rattle.swaps.proofs.rewrite.cross_all.Tie as tie
 
@@ -21,6 +22,6 @@ cross-all-spec =
     (λ c κs. (omega (arith, c .before .before .entry .ensures .0, c .before .before .before .before .before .before .before .before .before .before .before .pre .1 .0 .inside .at (c .before .before .before .before .loop .k) (omega arith), c .before .before .before .before .before .before .before .before .before .before .before .pre .1 .1, c .before .before .before .before .loop .inv .1), c .before .crossed .ensures .1))
     (λ c. search steps)
     (λ c. search steps)
-    (λ c. (steps-go (c .before .before .before .before .before .before .before .loop .inv .0) (omega arith) (crossed-entry _ (c .before .before .before .before .before .before .before .before .before .before .before .before .before .before .args .crossing .now) (c .before .before .before .before .before .before .before .loop .k) _ (crossedAt (c .before .before .before .before .before .before .before .before .before .before .before .before .before .before .args .table .now) (c .before .before .before .before .before .before .before .before .before .before .before .before .before .before .args .q .y .0) (c .before .before .before .before .before .before .before .before .before .before .before .before .before .before .args .standing .now) (c .before .before .before .before .before .before .before .before .before .before .before .before .before .before .args .q .standing) (record { list = c .before .before .before .before .before .before .before .before .before .before .before .before .before .before .args .news .now; count = c .before .before .before .before .before .before .before .before .before .before .before .before .before .before .args .q .needed }) (c .before .before .before .before .before .before .before .before .before .before .before .before .before .before .args .slots .now) (c .before .before .before .before .before .before .before .before .before .before .before .before .before .before .args .q .free)) (c .before .before .before .before .before .entry .ensures .0) (c .before .before .store .ensures) (c .before .before .before .before .crossed .ensures .0)), search steps))
+    (λ c. (steps-go (c .before .before .before .before .before .before .before .loop .inv .0) (omega arith) (stored-entry _ (c .before .before .before .before .before .before .before .before .before .before .before .before .before .before .args .crossing .now) (c .before .before .before .before .before .before .before .loop .k) _ (crossedAt (c .before .before .before .before .before .before .before .before .before .before .before .before .before .before .args .table .now) (c .before .before .before .before .before .before .before .before .before .before .before .before .before .before .args .q .y .0) (c .before .before .before .before .before .before .before .before .before .before .before .before .before .before .args .standing .now) (c .before .before .before .before .before .before .before .before .before .before .before .before .before .before .args .q .standing) (record { list = c .before .before .before .before .before .before .before .before .before .before .before .before .before .before .args .news .now; count = c .before .before .before .before .before .before .before .before .before .before .before .before .before .before .args .q .needed }) (c .before .before .before .before .before .before .before .before .before .before .before .before .before .before .args .slots .now) (c .before .before .before .before .before .before .before .before .before .before .before .before .before .before .args .q .free)) (c .before .before .before .before .before .entry .ensures .0) (c .before .before .store .ensures) (c .before .before .before .before .crossed .ensures .0)), search steps))
     (λ c. search steps)
     (λ c. search steps))

@@ -1,4 +1,3 @@
-use native.Mathlib.Omega.{arith}
 use borrow.Author.Needs.{needs}
 use Rattle.reckoning.specs.Reckoned.{inside, settled-small, news-room}
 use Rattle.swaps.proofs.Laws.{crossed-is}

@@ -3,7 +3,8 @@ use Prim.Native.Nat.{_-_}
 use mathlib.Core.Path.{_≡_}
 use lib.ListN.{length}
 use Rattle.lists.specs.Fold.{Steps, steps-go, steps}
-use Rattle.reckoning.specs.Reckoning.{newNode, placedAt}
+use Rattle.reckoning.specs.Reckoning.{newNode}
+use Rattle.swaps.specs.Image.{placedAt}
 use Rattle.reckoning.specs.Inside.{entries}
 use Rattle.swaps.proofs.Laws.{stored-entry}
 use Rattle.swaps.proofs.rewrite.place_news.Statement.{statement}
@@ -21,6 +22,6 @@ place-news-spec =
     (λ c κs. (omega (arith, c .entry .ensures .0, c .before .before .before .before .before .before .before .before .pre .0 .0 .at (c .before .before .before .before .loop .j) (omega arith), c .before .before .before .before .loop .inv .1), c .before .before .fresh .ensures .1))
     (λ c. search steps)
     (λ c. search steps)
-    (λ c. (steps-go (c .before .before .before .before .before .before .before .loop .inv .0) (omega arith) (stored-entry _ (c .before .before .before .before .before .before .before .before .before .before .before .args .slots .now) (c .before .before .before .before .before .before .before .loop .j) _ (newNode (c .before .before .before .before .before .before .before .before .before .before .before .args .x .0) (record { list = c .before .before .before .before .before .before .before .before .before .before .before .args .news .now; count = c .before .before .before .before .before .before .before .before .before .before .before .args .needed }) (c .before .before .before .before .before .before .before .loop .j)) (c .before .before .before .entry .ensures .0) (c .before .before .store .ensures) (c .before .before .before .before .before .fresh .ensures .0)), search steps))
+    (λ c. (steps-go (c .before .before .before .before .before .before .before .loop .inv .0) (omega arith) (stored-entry _ (c .before .before .before .before .before .before .before .before .before .before .before .args .slots .now) (c .before .before .before .before .before .before .before .loop .j) _ (λ _. newNode (c .before .before .before .before .before .before .before .before .before .before .before .args .x .0) (record { list = c .before .before .before .before .before .before .before .before .before .before .before .args .news .now; count = c .before .before .before .before .before .before .before .before .before .before .before .args .needed }) (c .before .before .before .before .before .before .before .loop .j)) (c .before .before .before .entry .ensures .0) (c .before .before .store .ensures) (c .before .before .before .before .before .fresh .ensures .0)), search steps))
     (λ c. search steps)
     (λ c. search steps))

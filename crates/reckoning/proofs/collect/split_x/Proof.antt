@@ -7,15 +7,15 @@ use Rattle.lists.specs.Collect.{Sift, sift-goes, sift-ends, sift}
 use Rattle.lists.specs.Entries.{entry-below}
 use Rattle.reckoning.specs.Reckoning.{crossesAt}
 use Rattle.reckoning.proofs.Laws.{crossing-part, standing-part}
-use Rattle.reckoning.proofs.collect.split.Statement.{statement}
-use Rattle.reckoning.proofs.collect.split.Tie as tie
+use Rattle.reckoning.proofs.collect.split_x.Statement.{statement}
+use Rattle.reckoning.proofs.collect.split_x.Tie as tie
 
-pub split-spec : {M : Type 1} → statement M
-split-spec =
+pub split-x-spec : {M : Type 1} → statement M
+split-x-spec =
     tie.close
     (tie.spec
-    (λ table x y upper m crossing₀ standing₀ c₀ s₀ k₀ crossing standing c s k. (Sift (crossesAt table (x .0) (y .0)) upper m k crossing c × Sift (λ i. not (crossesAt table (x .0) (y .0) i)) upper m k standing s) × ((length crossing ≡ length crossing₀) × (length standing ≡ length standing₀)))
-    (λ table x y upper m crossing₀ standing₀ c₀ s₀ k₀ crossing standing c s k. m - k)
+    (λ table x y xs m crossing₀ standing₀ c₀ s₀ k₀ crossing standing c s k. (Sift (crossesAt table (x .0) (y .0)) xs m k crossing c × Sift (λ i. not (crossesAt table (x .0) (y .0) i)) xs m k standing s) × ((length crossing ≡ length crossing₀) × (length standing ≡ length standing₀)))
+    (λ table x y xs m crossing₀ standing₀ c₀ s₀ k₀ crossing standing c s k. m - k)
     (λ c. search sift)
     (λ c κs. omega (arith, c .before .before .before .before .before .before .pre .0 .room))
     (λ c κs. omega (arith, c .entry .ensures .0, entry-below (c .before .before .before .before .before .before .before .pre .0) (c .before .before .loop .k) (omega arith)))

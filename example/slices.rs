@@ -1,0 +1,66 @@
+#[link(name = "relay", kind = "static")]
+extern "C" {
+    fn relay_run(
+        table: *mut u8,
+        table_length: usize,
+        roots: *const u8,
+        roots_length: usize,
+        order: *mut u8,
+        order_length: usize,
+        target: *const u8,
+        target_length: usize,
+        budget: u32,
+        answer: *mut u32,
+        answer_length: usize,
+    ) -> usize;
+}
+
+/// One slice; the numbers of its answer.
+fn run<'a>(
+    table: &mut [u8],
+    roots: &[u8],
+    order: &mut [u8],
+    target: &[u8],
+    budget: u32,
+    answer: &'a mut [u32; 6],
+) -> &'a [u32] {
+    // Six numbers are the longest answer, so it is always written.
+    let written = unsafe {
+        relay_run(
+            table.as_mut_ptr(),
+            table.len(),
+            roots.as_ptr(),
+            roots.len(),
+            order.as_mut_ptr(),
+            order.len(),
+            target.as_ptr(),
+            target.len(),
+            budget,
+            answer.as_mut_ptr(),
+            answer.len(),
+        )
+    };
+    &answer[..written]
+}
+
+fn main() {
+    // case A. 0: 1 (0,1); 1: 0 (0,2); 2: free; root 3; from order 0 1 to 1 0
+    let mut table = [
+        1, 0, 0, 0, 1, 0, 0, 0, 0, 0, 0, 0, 2, 0, 0, 0, 255, 0, 0, 0, 0, 0, 0, 0,
+    ];
+    let roots = [3, 0];
+    let mut order = [0, 1];
+    let target = [1, 0];
+    loop {
+        match *run(&mut table, &roots, &mut order, &target, 8, &mut [0; 6]) {
+            [101, ..] => continue, // the next protection pass goes here
+            [0, ..] => println!("order {} {}", order[0], order[1]),
+            [100, _, _, level, needed, free] => {
+                println!("no room at level {level}: needed {needed}, free {free}")
+            }
+            [number, place] => println!("refused {number} place {place}"),
+            _ => unreachable!("no other answer has numbers"),
+        }
+        break;
+    }
+}
