@@ -373,6 +373,18 @@ fn shared_lower_records() -> Vec<Case> {
     ];
     let (before_order, after_order) = ([1, 2, 0], [1, 0, 2]);
     let roots = [7, 9];
+    let crowded = || {
+        let records = [
+            used(2, 1, 3),
+            used(0, 0, 1),
+            used(2, 3, 0),
+            FREE,
+            used(1, 2, 4),
+            used(0, 1, 0),
+            used(2, 3, 7),
+        ];
+        input(&records, &[6, 8], &before_order)
+    };
     vec![
         swap(
             "shared lower records",
@@ -383,34 +395,10 @@ fn shared_lower_records() -> Vec<Case> {
         ),
         swap(
             "shared lower records, no room",
-            input(
-                &[
-                    used(2, 1, 3),
-                    used(0, 0, 1),
-                    used(2, 3, 0),
-                    FREE,
-                    used(1, 2, 4),
-                    used(0, 1, 0),
-                    used(2, 3, 7),
-                ],
-                &[6, 8],
-                &before_order,
-            ),
+            crowded(),
             1,
             Answer::NoRoom(lack(1, 2, 1)),
-            input(
-                &[
-                    used(2, 1, 3),
-                    used(0, 0, 1),
-                    used(2, 3, 0),
-                    FREE,
-                    used(1, 2, 4),
-                    used(0, 1, 0),
-                    used(2, 3, 7),
-                ],
-                &[6, 8],
-                &before_order,
-            ),
+            crowded(),
         ),
     ]
 }

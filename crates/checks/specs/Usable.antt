@@ -10,7 +10,6 @@ use native.Mathlib.Omega.{arith}
 use lib.ListN.{length, getD}
 use Rattle.lists.specs.First.{Passed}
 use Rattle.lists.specs.Says.{Some, either-side, nowhere, passes, stable}
-use Rattle.orders.specs.Permutation.{badPlace, Permutation, levelOf, permutation-if, permutation-then, level-inside, inside-level}
 use Rattle.diagrams.specs.Layout.{records, rootCount, variableAt, lowAt, highAt, rootAt}
 use Rattle.diagrams.specs.Node.{pick, Constant, at, ref}
 use Rattle.diagrams.specs.Decode.{Used, Zeros, Empty, decode, WellLaid}
@@ -18,10 +17,11 @@ use Rattle.diagrams.specs.Lookup.{rootsOf, lookup, Stored, record-at, node-of, 
 use Rattle.diagrams.specs.Bryant.{Vertex, Ordered, Bryant}
 use Rattle.diagrams.specs.Diagram.{Named, Diagram}
 use Rattle.diagrams.specs.Reduced.{bryant-of, diagram-of, look-plain}
-use Rattle.checks.specs.Tests.{badSizes, malformed, notBelow, lowIsHigh, repeats, deadRoot, idle}
+use Rattle.orders.specs.Permutation.{badPlace, Permutation, levelOf, permutation-if, permutation-then, level-inside, inside-level}
+use Rattle.flaws.specs.Tests.{badSizes, malformed, notBelow, lowIsHigh, repeats, deadRoot, idle}
+use Rattle.flaws.specs.Meaning.{Sizes, sizes-if, sizes-then, Dead, Same, NotUnder, NamedByRoot, NamedByRecord, named-says, malformed-says, zeros-says, empty-says, below-says, equal-says, repeats-says, root-says, idle-says}
 use Rattle.checks.specs.Stages.{only-passed, passed-only, AllPass, none, also}
 use Rattle.checks.specs.Check.{tableStages, checkStages}
-use Rattle.checks.specs.Meaning.{Sizes, sizes-if, sizes-then, Dead, Same, NotUnder, NamedByRoot, NamedByRecord, named-says, malformed-says, zeros-says, empty-says, below-says, equal-says, repeats-says, root-says, idle-says}
 use Rattle.checks.specs.declared.Verdict.the-variants as verdict
 
 -- a table with its roots and order that the relay can use

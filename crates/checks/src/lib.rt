@@ -4,15 +4,15 @@ ghost use mathlib.Core.Bool.{false};
 ghost use lib.ListN.{length};
 ghost use Rattle.lists.specs.First.{Passed};
 ghost use Rattle.orders.specs.Permutation.{badPlace};
-ghost use Rattle.checks.specs.Tests.{badSizes};
+ghost use Rattle.flaws.specs.Tests.{badSizes};
 ghost use Rattle.checks.specs.Stages.{judge};
 ghost use Rattle.checks.specs.Check.{tableStages, checkStages, CheckOutcome};
 use diagrams::RECORD_SIZE;
 use diagrams::ROOT_SIZE;
+use flaws::names;
+use flaws::records;
 use orders::Order;
 
-mod names;
-mod records;
 pub mod sizes;
 
 // What a row of checks finds.

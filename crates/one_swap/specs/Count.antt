@@ -6,8 +6,9 @@ use mathlib.Core.Logic.{_⊎_, inl, inr}
 use mathlib.Core.Path.{_≡_, ap, _∙_}
 use Rattle.lists.specs.Count.{bit, count}
 use Rattle.lists.specs.Keep.{count-both, count-places}
+use Rattle.lists.specs.Truth.{by}
 use Rattle.diagrams.specs.Node.{Node, free, node, ref, look}
-use Rattle.one_swap.specs.Record.{isFreeNode, isUsedNode, by, UsedOf, free-false}
+use Rattle.one_swap.specs.Record.{isFreeNode, isUsedNode, UsedOf, free-false}
 use Rattle.one_swap.specs.Swap.{crosses, slots, dies, needed, turn, filled, after, dying, usedCount}
 use Rattle.one_swap.specs.Step.{Open, crosses-x}
 use Rattle.one_swap.specs.Plain.{Room, slots-apart, slot-in, dies-y, other-lives, free-lives, after-crossed, after-gone, after-kept, filled-open, filled-used, unfilled}

@@ -13,9 +13,9 @@ use lib.Seq.{length-take-le}
 use Rattle.lists.specs.Says.{nowhere, either-side}
 use Rattle.diagrams.specs.Layout.{recordSize, mostRecords, records, rootCount, rootAt}
 use Rattle.diagrams.specs.Node.{Constant, ref}
+use Rattle.flaws.specs.Meaning.{root-says}
 use Rattle.checks.specs.Stages.{judge, clear-only, row-refuses, row-passes, place-refuses, place-passes}
 use Rattle.checks.specs.Check.{checkStages, used, answered, checkOf}
-use Rattle.checks.specs.Meaning.{root-says}
 use Rattle.checks.specs.Theorems.{accepts-only}
 use Rattle.checks.specs.Usable.{passes-all}
 use Rattle.checks.specs.declared.Verdict.{Verdict}

@@ -14,15 +14,17 @@ use Rattle.lists.specs.Entries.{through, fold-entries}
 use Rattle.lists.specs.First.{any, any-or, first-agrees}
 use Rattle.lists.specs.Fold.{fold}
 use Rattle.lists.specs.Says.{decided, either-side, says-eqb}
+use Rattle.lists.specs.Truth.{or-true, or-false, or-assoc}
 use Rattle.diagrams.specs.Layout.{mostRecords, records, rootCount, rootAt, variableAt, lowAt, highAt, isFree, isUsed}
-use Rattle.diagrams.specs.Node.{free, node, at, ref, two-more, look}
+use Rattle.diagrams.specs.Node.{free, node, at, ref, two-more}
 use Rattle.diagrams.specs.Decode.{nodeAt, decode}
 use Rattle.diagrams.specs.Lookup.{lookup, at-decode, rootsOf, length-roots, root-is}
-use Rattle.checks.specs.Tests.{rootNames}
-use Rattle.checks.specs.Marks.{or-true, or-false, or-assoc, roots-long, roots-has, records-long, records-has, length-no-marks, none-marked}
-use Rattle.one_swap.specs.Record.{lowOf, highOf, isFreeNode, isOf}
+use Rattle.flaws.specs.Tests.{rootNames}
+use Rattle.flaws.specs.Marks.{roots-long, roots-has, records-long, records-has, length-no-marks, none-marked}
+use Rattle.one_swap.specs.Record.{lowOf, highOf, isFreeNode}
 use Rattle.one_swap.specs.Swap.{crosses, names, dies}
-use Rattle.reckoning.specs.Reckoning.{ofAt, crossesAt, standsAt, named, namedRoot, namedBy, namedOther, noNames, namesOf, unnamed}
+use Rattle.kinds.specs.Kinds.{of-is, ofAt, crossesAt, standsAt}
+use Rattle.reckoning.specs.Reckoning.{named, namedRoot, namedBy, namedOther, noNames, namesOf, unnamed}
 
 -- ---- room in 16 bits for n names more, of any reference
 
@@ -100,14 +102,6 @@ abbrev says : List ℕ → ℕ → ℕ → Bool
 says t q i = eqb (lowAt t i) q || eqb (highAt t i) q
 
 -- ---- the records that stay as they are
-
-pub of-is : (t : List ℕ) (v i : ℕ) → i < records t → ofAt t v i ≡ (isUsed t i && eqb (variableAt t i) v)
-unfolding look nodeAt isOf
-of-is t v i h = rw (at-decode t i h) (go (isFree t i))
-  where
-    go : (u : Bool) → isOf v (cond u free (node (variableAt t i) (lowAt t i) (highAt t i))) ≡ (not u && eqb (variableAt t i) v)
-    go true = refl
-    go false = refl
 
 -- record j stays as it is, and names q
 abbrev keeps : List ℕ → ℕ → ℕ → ℕ → ℕ → Bool

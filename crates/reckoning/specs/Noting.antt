@@ -18,14 +18,16 @@ use Rattle.lists.specs.Tabulate.{tabulate, length-tabulate, getD-tabulate, tabu
 use Rattle.lists.specs.Which.{which-finds, which-misses}
 use Rattle.lists.specs.Collect.{Collected}
 use Rattle.lists.specs.Entries.{length-entries, entry-at, entry-below}
+use Rattle.lists.specs.Truth.{by}
 use Rattle.diagrams.specs.Layout.{records, variableAt, lowAt, highAt, isFree}
 use Rattle.diagrams.specs.Node.{Node, free, node, at, ref, look}
 use Rattle.diagrams.specs.Decode.{nodeAt, decode}
 use Rattle.diagrams.specs.Lookup.{lookup, at-decode}
-use Rattle.one_swap.specs.Record.{lowOf, highOf, isOf, same, by}
+use Rattle.one_swap.specs.Record.{lowOf, highOf, isOf, same}
 use Rattle.one_swap.specs.Swap.{crosses, asked, crossing, stands, isNew, news, f00, f01, f10, f11}
 use Rattle.one_swap.specs.Loops.{newsTo, noted, news-begin, news-more, news-end}
-use Rattle.reckoning.specs.Reckoning.{standsAt, matchesAt, News, newAt, crossesAt, notePair, noteCrossing}
+use Rattle.kinds.specs.Kinds.{standsAt, crossesAt}
+use Rattle.reckoning.specs.Reckoning.{matchesAt, News, newAt, notePair, noteCrossing}
 
 -- ---- the new records, record by record
 

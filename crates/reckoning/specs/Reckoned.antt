@@ -16,14 +16,16 @@ use Rattle.lists.specs.Fold.{fold}
 use Rattle.lists.specs.Keep.{which, which-length}
 use Rattle.lists.specs.Says.{either-side}
 use Rattle.lists.specs.Which.{which-agrees, which-index, which-absent}
+use Rattle.lists.specs.Truth.{by, and-left, and-right}
 use Rattle.diagrams.specs.Layout.{mostRecords, records, variableAt, lowAt, highAt, isFree}
 use Rattle.diagrams.specs.Node.{Node, free, node, at, ref, two-more}
 use Rattle.diagrams.specs.Decode.{nodeAt, decode}
 use Rattle.diagrams.specs.Lookup.{lookup, at-decode, rootsOf}
-use Rattle.one_swap.specs.Record.{isFreeNode, same, by, and-left, and-right}
+use Rattle.one_swap.specs.Record.{isFreeNode, same}
 use Rattle.one_swap.specs.Swap.{crosses, news, slots, slotOf, needed, freeCount, fits, X, becomes, turn, filled, dies, after, f00, f01, f10, f11}
-use Rattle.reckoning.specs.Reckoning.{ofAt, crossesAt, standsAt, matchesAt, News, newAt, noteCrossing, slotAt, settledAt, namesOf, unnamed, crossedAt, rewritten}
-use Rattle.reckoning.specs.Inside.{Inside, inside-of}
+use Rattle.kinds.specs.Kinds.{ofAt, crossesAt, standsAt}
+use Rattle.kinds.specs.Inside.{Inside, inside-of}
+use Rattle.reckoning.specs.Reckoning.{matchesAt, News, newAt, noteCrossing, slotAt, settledAt, namesOf, unnamed, crossedAt, rewritten}
 use Rattle.reckoning.specs.Noting.{noteRecord, begun, begun-count, begun-length, newsList, length-news, news-at, new-first, found, sought, standing-finds, standing-any, news-whole}
 use Rattle.reckoning.specs.Naming.{dies-is}
 

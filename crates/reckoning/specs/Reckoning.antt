@@ -13,20 +13,9 @@ use Rattle.diagrams.specs.Layout.{records, rootCount, rootAt, lowAt, highAt, is
 use Rattle.diagrams.specs.Node.{Node, free, node, ref}
 use Rattle.diagrams.specs.Decode.{nodeAt}
 use Rattle.diagrams.specs.Lookup.{lookup}
-use Rattle.checks.specs.Marks.{noMarks}
-use Rattle.one_swap.specs.Record.{isOf}
-use Rattle.one_swap.specs.Swap.{crosses, f00, f01, f10, f11}
-
--- ---- the records of this swap: of the variable v; of x, those that cross and those that stand
-
-abbrev pub ofAt : List ℕ → ℕ → ℕ → Bool
-ofAt t v i = isOf v (lookup t (ref i))
-
-abbrev pub crossesAt : List ℕ → ℕ → ℕ → ℕ → Bool
-crossesAt t x y i = crosses (lookup t) x y (ref i)
-
-unfoldable pub standsAt : List ℕ → ℕ → ℕ → ℕ → Bool
-standsAt t x y i = ofAt t x i && not (crossesAt t x y i)
+use Rattle.flaws.specs.Marks.{noMarks}
+use Rattle.one_swap.specs.Swap.{f00, f01, f10, f11}
+use Rattle.kinds.specs.Kinds.{ofAt, crossesAt}
 
 -- entry k is the record with low a and high b
 unfoldable pub matchesAt : List ℕ → List ℕ → ℕ → ℕ → ℕ → Bool

@@ -5,18 +5,17 @@ ghost use lib.ListN.{length};
 ghost use Rattle.lists.specs.Entries.{through};
 ghost use Rattle.lists.specs.Fold.{fold};
 ghost use Rattle.diagrams.specs.Layout.{recordSize, records, rootCount};
-ghost use Rattle.checks.specs.Meaning.{Sized};
-ghost use Rattle.reckoning.specs.Inside.{Inside};
+ghost use Rattle.flaws.specs.Meaning.{Sized};
+ghost use Rattle.kinds.specs.Inside.{Inside};
 ghost use Rattle.reckoning.specs.Reckoning.{named, namedRoot, namedBy, namedOther, noNames, namesOf, unnamed};
 ghost use Rattle.reckoning.specs.Naming.{Countable};
-use super::collect;
-use super::kinds;
 use diagrams::MOST_RECORDS;
 use diagrams::RECORD_SIZE;
 use diagrams::ROOT_SIZE;
 use diagrams::RecordNumber;
 use diagrams::Reference;
 use diagrams::Variable;
+use kinds::collect;
 
 fn no_names() -> [u16; MOST_RECORDS + 2]
     ensures { λ l. ⌜ l ≡ noNames ⌝ }

@@ -7,14 +7,13 @@ ghost use Rattle.lists.specs.First.{first};
 ghost use Rattle.lists.specs.Fold.{fold};
 ghost use Rattle.lists.specs.Entries.{through};
 ghost use Rattle.diagrams.specs.Layout.{recordSize, mostRecords, isFree};
-ghost use Rattle.reckoning.specs.Inside.{Inside, InUse};
+ghost use Rattle.kinds.specs.Inside.{Inside, InUse};
 ghost use Rattle.reckoning.specs.Reckoning.{matchesAt, newAt, notePair, noteCrossing, slotAt, settledAt};
-use super::collect;
-use super::kinds;
 use diagrams::MOST_RECORDS;
 use diagrams::RecordNumber;
 use diagrams::Reference;
 use diagrams::Variable;
+use kinds::collect;
 
 pub fn no_news() -> [u16; 4 * MOST_RECORDS]
     ensures { λ l. ⌜ length l ≡ 4 * mostRecords ⌝ }

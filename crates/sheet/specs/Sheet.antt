@@ -14,8 +14,8 @@ use Rattle.orders.specs.Permutation.{holdsAt, badPlace, levelOf}
 use Rattle.orders.specs.Exchange.{exchange}
 use Rattle.orders.specs.Inversions.{inverted, left}
 use Rattle.orders.specs.Plans.{differsAt, same?, bringUp, nearest}
+use Rattle.flaws.specs.Tests.{badSizes, dead, malformed, notUnder, notBelow, lowIsHigh, sameRecord, repeats, deadRoot, rootNames, recordNames, idle}
 use Rattle.checks.specs.Stages.{only, judged}
-use Rattle.checks.specs.Tests.{badSizes, dead, malformed, notUnder, notBelow, lowIsHigh, sameRecord, repeats, deadRoot, rootNames, recordNames, idle}
 use Rattle.checks.specs.Check.{tableStages}
 use Rattle.one_swap.specs.Record.{lowOf, highOf, isFreeNode, isOf, same}
 use Rattle.one_swap.specs.Swap as one

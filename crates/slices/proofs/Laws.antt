@@ -10,6 +10,7 @@ use lib.ListN.{length, getD}
 use lib.Seq.{getD-take}
 use Rattle.lists.specs.First.{passed-all}
 use Rattle.lists.specs.Says.{true-false}
+use Rattle.diagrams.specs.Node.{at}
 use Rattle.orders.specs.Permutation.{ceiling, Permutation}
 use Rattle.orders.specs.Exchange.{exchange}
 use Rattle.orders.specs.Order.{loadOrder, exchangedOrder, Inverse}
@@ -17,19 +18,18 @@ use Rattle.orders.specs.Inversions.{left, Adjacent}
 use Rattle.orders.specs.Plans.{same?, bringUp, bring-up-lawful}
 use Rattle.orders.specs.Arranged.{bytesOf, Arranged, load-bytes, load-arranged, arranged-length, arranged-inverse, exchanged-arranged, exchanged-bytes, arranged-adjacent}
 use Rattle.orders.specs.declared.Order.{Order}
-use Rattle.diagrams.specs.Node.{at}
-use Rattle.checks.specs.Meaning.{Sized, sized}
-use Rattle.checks.specs.Tests.{badSizes}
+use Rattle.flaws.specs.Meaning.{Sized, sized}
+use Rattle.flaws.specs.Tests.{badSizes}
 use Rattle.checks.specs.Stages as stages
 use Rattle.checks.specs.Stages.{clear-only, chain}
 use Rattle.checks.specs.declared.Verdict.{Verdict}
 use Rattle.checks.specs.declared.Verdict.the-variants as verdict
+use Rattle.checks.specs.Usable.{Usable}
 use Rattle.one_swap.specs.Swap.{xAt, yAt}
 use Rattle.swaps.specs.Outcome.{fitsIn, roomOf, tableAfter, RoomOutcome, room-fits, room-lacks}
 use Rattle.swaps.specs.Bytes.{no-room-only}
 use Rattle.swaps.specs.declared.Room.{Room}
 use Rattle.swaps.specs.declared.Room.the-variants as room
-use Rattle.checks.specs.Usable.{Usable}
 use Rattle.slices.specs.Slices as over
 use Rattle.slices.specs.Slices.{slicing-goes, slicing-rests, slicing-ends}
 use Rattle.slices.specs.Run.{State, relay, badRunSizes, runStages, answerOf, ranTo, runJudged, runOf, stateOf, Stepped, Driven}

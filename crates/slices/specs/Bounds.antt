@@ -6,14 +6,14 @@ use mathlib.Core.Path.{_≡_, refl}
 use native.Mathlib.Omega.{arith}
 use lib.ListN.{length}
 use Rattle.lists.specs.Below.{Below}
+use Rattle.diagrams.specs.Layout.{mostRecords}
 use Rattle.orders.specs.Permutation.{ceiling}
 use Rattle.orders.specs.Inversions.{left, left-small}
 use Rattle.orders.specs.Plans.{bringUp, bring-up-within}
-use Rattle.diagrams.specs.Layout.{mostRecords}
+use Rattle.flaws.specs.Meaning.{Sizes}
 use Rattle.checks.specs.Stages as stages
 use Rattle.checks.specs.Stages.{FailsFirst, here, later, passed-only, clear-only, refused-only}
 use Rattle.checks.specs.Check.{tableStages}
-use Rattle.checks.specs.Meaning.{Sizes}
 use Rattle.checks.specs.Theorems.{Bounded, refusal-below, table-bounded}
 use Rattle.checks.specs.declared.Verdict as judged
 use Rattle.checks.specs.declared.Verdict.the-variants as verdict

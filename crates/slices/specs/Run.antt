@@ -5,17 +5,17 @@ use mathlib.Core.List.{List, [], _∷_}
 use mathlib.Core.Path.{_≡_}
 use lib.Dec.{eqb}
 use lib.ListN.{length}
-use Rattle.orders.specs.Exchange.{exchange}
-use Rattle.orders.specs.Plans.{bringUp}
-use Rattle.orders.specs.Arranged.{bytesOf, Arranged}
-use Rattle.orders.specs.declared.Order.{Order}
 use Rattle.diagrams.specs.Layout.{records}
 use Rattle.diagrams.specs.Node.{at}
 use Rattle.diagrams.specs.Decode.{decode}
 use Rattle.diagrams.specs.Lookup.{rootsOf}
+use Rattle.orders.specs.Exchange.{exchange}
+use Rattle.orders.specs.Plans.{bringUp}
+use Rattle.orders.specs.Arranged.{bytesOf, Arranged}
+use Rattle.orders.specs.declared.Order.{Order}
+use Rattle.flaws.specs.Tests.{badSizes}
 use Rattle.checks.specs.Stages as stages
 use Rattle.checks.specs.Stages.{Stage, stageAt}
-use Rattle.checks.specs.Tests.{badSizes}
 use Rattle.checks.specs.Check.{orderStage, tableStages}
 use Rattle.checks.specs.declared.Verdict as judged
 use Rattle.checks.specs.declared.Verdict.the-variants as verdict

@@ -11,22 +11,22 @@ use borrow.Author.Tests.{eq-eqb, eqb-true, not-false}
 use lib.Dec.{eqb}
 use lib.ListN.{length}
 use Rattle.lists.specs.Says.{true-false}
+use Rattle.lists.specs.Truth.{or-neither}
+use Rattle.diagrams.specs.Layout.{rootCount, rootAt}
+use Rattle.diagrams.specs.Lookup.{lookup}
+use Rattle.diagrams.specs.Value.{value}
 use Rattle.orders.specs.Permutation.{Permutation, permutation-if, permutation-then}
 use Rattle.orders.specs.Exchange.{length-exchange}
 use Rattle.orders.specs.Inversions.{left}
 use Rattle.orders.specs.Plans.{bringUp, bring-up-lawful, reached, left-zero}
-use Rattle.diagrams.specs.Layout.{rootCount, rootAt}
-use Rattle.diagrams.specs.Lookup.{lookup}
-use Rattle.diagrams.specs.Value.{value}
+use Rattle.flaws.specs.Meaning.{Sizes, sizes-if, sizes-then}
+use Rattle.flaws.specs.Tests.{badSizes}
 use Rattle.checks.specs.Stages as stages
 use Rattle.checks.specs.Stages.{AllPass, also, only-passed, passed-only, FailsFirst, clear-if, clear-only, refused-if, refused-only}
 use Rattle.checks.specs.Check.{tableStages, checkStages}
-use Rattle.checks.specs.Meaning.{Sizes, sizes-if, sizes-then}
-use Rattle.checks.specs.Tests.{badSizes}
 use Rattle.checks.specs.Usable.{Usable, usable-if, usable-then, all-pass, passes-all}
 use Rattle.checks.specs.declared.Verdict as judged
 use Rattle.checks.specs.declared.Verdict.the-variants as verdict
-use Rattle.one_swap.specs.Record.{or-neither}
 use Rattle.one_swap.specs.Swap.{xAt, yAt}
 use Rattle.swaps.specs.Outcome.{fitsIn, swapOf}
 use Rattle.swaps.specs.Bytes.{swap-usable, swap-root-value, made-is}

@@ -12,13 +12,13 @@ use Rattle.lists.specs.Copy.{copied, copied-first}
 use Rattle.lists.specs.Fold.{Steps, steps-end}
 use Rattle.lists.specs.Says.{true-false}
 use Rattle.lists.specs.Tabulate.{tabulate, tabulate-agrees}
-use Rattle.orders.specs.Exchange.{exchange}
 use Rattle.diagrams.specs.Layout.{recordSize, records}
 use Rattle.diagrams.specs.Node.{Node, at}
 use Rattle.diagrams.specs.Decode.{decode, encode}
 use Rattle.diagrams.specs.Lookup.{rootsOf}
 use Rattle.diagrams.specs.Store.{length-encode}
-use Rattle.checks.specs.Meaning.{Sizes, Sized, sized, sizes-if}
+use Rattle.orders.specs.Exchange.{exchange}
+use Rattle.flaws.specs.Meaning.{Sizes, Sized, sized, sizes-if}
 use Rattle.checks.specs.Stages.{judge, clear-only, row-refuses, row-passes, place-refuses, place-passes}
 use Rattle.checks.specs.Check.{checkStages}
 use Rattle.checks.specs.Usable.{passes-all}

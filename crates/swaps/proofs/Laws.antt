@@ -9,8 +9,8 @@ use Rattle.diagrams.specs.Node.{Node, free, node}
 use Rattle.diagrams.specs.Decode.{eight}
 use Rattle.diagrams.specs.Store.{laid, storedAt}
 use Rattle.diagrams.specs.declared.Fields.{Fields}
-use Rattle.reckoning.specs.Grands.{Grands}
-use Rattle.reckoning.specs.declared.kinds.Grandchildren.{Grandchildren}
+use Rattle.kinds.specs.Grands.{Grands}
+use Rattle.kinds.specs.declared.Grandchildren.{Grandchildren}
 use Rattle.reckoning.specs.Reckoning.{News, settledAt, unnamed, crossedAt}
 use Rattle.swaps.specs.Image.{buriedAt}
 

@@ -12,9 +12,9 @@ use Rattle.diagrams.specs.Layout.{recordSize, mostRecords, records}
 use Rattle.diagrams.specs.Node.{Node, at}
 use Rattle.diagrams.specs.Decode.{decode}
 use Rattle.diagrams.specs.Lookup.{rootsOf}
+use Rattle.flaws.specs.Meaning.{Sizes, sizes-if}
 use Rattle.checks.specs.Stages.{AllPass, also, stageAt, judge, passed-only, clear-only}
 use Rattle.checks.specs.Check.{checkStages}
-use Rattle.checks.specs.Meaning.{Sizes, sizes-if}
 use Rattle.checks.specs.Theorems.{Bounded, refusal-small}
 use Rattle.checks.specs.declared.Verdict.{Verdict}
 use Rattle.checks.specs.declared.Verdict.the-variants as verdict

@@ -15,7 +15,8 @@ use Rattle.diagrams.specs.Layout.{recordSize, records, isFree}
 use Rattle.diagrams.specs.Node.{Node, free}
 use Rattle.diagrams.specs.Decode.{nodeAt, eight, encode}
 use Rattle.diagrams.specs.Store.{storedAt, stores-encode, stores-where}
-use Rattle.reckoning.specs.Reckoning.{ofAt, crossesAt, News, unnamed, newNode, crossedAt, rewritten}
+use Rattle.kinds.specs.Kinds.{ofAt, crossesAt}
+use Rattle.reckoning.specs.Reckoning.{News, unnamed, newNode, crossedAt, rewritten}
 
 -- ---- one record stored: of the table, then what dies, what is new and what crosses
 

@@ -4,7 +4,7 @@ ghost use mathlib.Core.Path.{_≡_};
 ghost use Prim.Native.Nat.{_*_, _≤_, _<_};
 ghost use lib.ListN.{length, take};
 ghost use Rattle.diagrams.specs.Layout.{mostRecords, recordSize};
-ghost use Rattle.checks.specs.Meaning.{Sized};
+ghost use Rattle.flaws.specs.Meaning.{Sized};
 ghost use Rattle.swaps.specs.Outcome.{roomOf, Prepared, RoomOutcome, SwapOutcome};
 
 mod rewrite;
@@ -13,7 +13,7 @@ use checks::Verdict;
 use diagrams::MOST_RECORDS;
 use diagrams::RECORD_SIZE;
 use diagrams::Variable;
-use reckoning::collect;
+use kinds::collect;
 use reckoning::names;
 use reckoning::news;
 use rewrite::Numbers;

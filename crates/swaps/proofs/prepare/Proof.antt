@@ -1,6 +1,6 @@
 use native.Mathlib.Omega.{arith}
 use borrow.Author.Needs.{needs}
-use Rattle.reckoning.specs.Inside.{inside-of, in-use}
+use Rattle.kinds.specs.Inside.{inside-of, in-use}
 use Rattle.reckoning.specs.Reckoned.{reckoned}
 use Rattle.swaps.proofs.Entry.{prepared-none, prepared-made}
 use Rattle.swaps.proofs.prepare.Statement.{statement}

@@ -4,9 +4,9 @@ use mathlib.Core.Path.{_≡_}
 use lib.ListN.{length}
 use Rattle.lists.specs.Fold.{Steps, steps}
 use Rattle.lists.specs.Entries.{through, through-go}
+use Rattle.kinds.specs.Inside.{entries}
 use Rattle.reckoning.specs.Reckoning.{namedBy}
 use Rattle.reckoning.specs.Naming.{entry-step}
-use Rattle.reckoning.specs.Inside.{entries}
 use Rattle.reckoning.proofs.Laws.{countable-now}
 use Rattle.reckoning.proofs.names.count_standing.Statement.{statement}
 use Rattle.reckoning.proofs.names.count_standing.Tie as tie

@@ -1,7 +1,7 @@
 use Prim.Native.Nat.{_-_}
 use Rattle.lists.specs.First.{Scan, scan}
+use Rattle.kinds.specs.Inside.{entries}
 use Rattle.reckoning.specs.Reckoning.{matchesAt}
-use Rattle.reckoning.specs.Inside.{entries}
 use Rattle.reckoning.proofs.news.find_standing.Statement.{statement}
 use Rattle.reckoning.proofs.news.find_standing.Tie as tie
 

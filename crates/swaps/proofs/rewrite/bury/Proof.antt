@@ -4,8 +4,8 @@ use mathlib.Core.Path.{_≡_}
 use lib.ListN.{length}
 use Rattle.lists.specs.Fold.{Steps, steps}
 use Rattle.lists.specs.Entries.{through, through-go}
+use Rattle.kinds.specs.Inside.{entries}
 use Rattle.swaps.specs.Image.{buriedAt}
-use Rattle.reckoning.specs.Inside.{entries}
 use Rattle.swaps.proofs.rewrite.bury.Statement.{statement}
 use Rattle.swaps.proofs.rewrite.bury.Tie as tie
 

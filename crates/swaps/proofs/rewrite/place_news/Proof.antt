@@ -3,9 +3,9 @@ use Prim.Native.Nat.{_-_}
 use mathlib.Core.Path.{_≡_}
 use lib.ListN.{length}
 use Rattle.lists.specs.Fold.{Steps, steps-go, steps}
+use Rattle.kinds.specs.Inside.{entries}
 use Rattle.reckoning.specs.Reckoning.{newNode}
 use Rattle.swaps.specs.Image.{placedAt}
-use Rattle.reckoning.specs.Inside.{entries}
 use Rattle.swaps.proofs.Laws.{stored-entry}
 use Rattle.swaps.proofs.rewrite.place_news.Statement.{statement}
 use Rattle.swaps.proofs.rewrite.place_news.Tie as tie

@@ -1,8 +1,8 @@
 use native.Mathlib.Omega.{arith}
 use borrow.Author.Needs.{needs}
-use Rattle.reckoning.specs.Inside.{inside-of, inside-wider, inside-fewer, in-use}
-use Rattle.swaps.specs.Image.{image-is}
+use Rattle.kinds.specs.Inside.{inside-of, inside-wider, inside-fewer, in-use}
 use Rattle.reckoning.specs.Reckoned.{news-room}
+use Rattle.swaps.specs.Image.{image-is}
 use Rattle.swaps.proofs.rewrite.rewrite.Statement.{statement}
 use Rattle.swaps.proofs.rewrite.rewrite.Tie as tie
 

@@ -1,0 +1,15 @@
+use Rattle.kinds.proofs.Laws.{grand}
+use Rattle.kinds.proofs.grandchild.Statement.{statement}
+use Rattle.kinds.proofs.grandchild.Tie as tie
+
+pub grandchild-spec : {M : Type 1} → statement M
+grandchild-spec =
+    tie.close
+    (tie.spec
+    (λ c κs. search grand)
+    (λ c κs. search grand)
+    (λ c κs. search grand)
+    (λ c. search grand)
+    (λ c κs. search grand)
+    (λ c. search grand)
+    (λ c. search grand))
