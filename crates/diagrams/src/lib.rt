@@ -7,7 +7,7 @@ ghost use Rattle.lists.specs.Count.{bit};
 ghost use Rattle.diagrams.specs.Node.{free, node};
 ghost use Rattle.diagrams.specs.Decode.{eight, nodeAt};
 ghost use Rattle.diagrams.specs.Store.{laid, storedAt, Fit};
-ghost use Rattle.diagrams.specs.Layout.{recordSize, rootSize, variableAt, pairAt, lowAt, highAt, rootAt, isFree, isUsed, zeroBytes};
+ghost use Rattle.diagrams.specs.Layout.{variableAt, pairAt, lowAt, highAt, rootAt, isFree, isUsed, zeroBytes, InTable, InRoots};
 
 // An input of the relay.
 pub struct Variable(pub usize);
@@ -84,7 +84,7 @@ impl RecordNumber {
     }
 
     pub fn variable(self, table: &[u8]) -> Variable
-        requires { ⌜ recordSize * self .0 + recordSize ≤ length (now table) ⌝ }
+        requires { ⌜ InTable (now table) (self .0) ⌝ }
         ensures { λ v. ⌜ (v .0 ≡ variableAt (now (table .entry)) (self .0)) × (v .0 < 256) ⌝ }
     {
         let at = RECORD_SIZE * self.0;
@@ -92,21 +92,21 @@ impl RecordNumber {
     }
 
     pub fn low(self, table: &[u8]) -> Reference
-        requires { ⌜ recordSize * self .0 + recordSize ≤ length (now table) ⌝ }
+        requires { ⌜ InTable (now table) (self .0) ⌝ }
         ensures { λ r. ⌜ (r .0 ≡ lowAt (now (table .entry)) (self .0)) × (r .0 < 65536) ⌝ }
     {
         Reference(pair(table, RECORD_SIZE * self.0 + 2))
     }
 
     pub fn high(self, table: &[u8]) -> Reference
-        requires { ⌜ recordSize * self .0 + recordSize ≤ length (now table) ⌝ }
+        requires { ⌜ InTable (now table) (self .0) ⌝ }
         ensures { λ r. ⌜ (r .0 ≡ highAt (now (table .entry)) (self .0)) × (r .0 < 65536) ⌝ }
     {
         Reference(pair(table, RECORD_SIZE * self.0 + 4))
     }
 
     pub fn is_free(self, table: &[u8]) -> bool
-        requires { ⌜ recordSize * self .0 + recordSize ≤ length (now table) ⌝ }
+        requires { ⌜ InTable (now table) (self .0) ⌝ }
         ensures { λ b. ⌜ b ≡ isFree (now (table .entry)) (self .0) ⌝ }
     {
         let v = self.variable(table);
@@ -114,7 +114,7 @@ impl RecordNumber {
     }
 
     pub fn is_used(self, table: &[u8]) -> bool
-        requires { ⌜ recordSize * self .0 + recordSize ≤ length (now table) ⌝ }
+        requires { ⌜ InTable (now table) (self .0) ⌝ }
         ensures { λ b. ⌜ b ≡ isUsed (now (table .entry)) (self .0) ⌝ }
     {
         !self.is_free(table)
@@ -122,7 +122,7 @@ impl RecordNumber {
 
     // Are the bytes zero that are zero in every record?
     pub fn zero_bytes(self, table: &[u8]) -> bool
-        requires { ⌜ recordSize * self .0 + recordSize ≤ length (now table) ⌝ }
+        requires { ⌜ InTable (now table) (self .0) ⌝ }
         ensures { λ b. ⌜ b ≡ zeroBytes (now (table .entry)) (self .0) ⌝ }
     {
         let at = RECORD_SIZE * self.0;
@@ -167,7 +167,7 @@ impl Fields {
 
     // Record i of the table.
     pub fn of(table: &[u8], i: RecordNumber) -> Fields
-        requires { ⌜ recordSize * i .0 + recordSize ≤ length (now table) ⌝ }
+        requires { ⌜ InTable (now table) (i .0) ⌝ }
         ensures { λ f. ⌜ (laid f ≡ eight (nodeAt (now (table .entry)) (i .0))) × Fit f ⌝ }
     {
         if i.is_free(table) {
@@ -178,7 +178,7 @@ impl Fields {
 
     // Into record i of the table.
     pub fn store(self, table: &mut [u8], i: RecordNumber)
-        requires { ⌜ (recordSize * i .0 + recordSize ≤ length (now table)) × Fit self ⌝ }
+        requires { ⌜ InTable (now table) (i .0) × Fit self ⌝ }
         ensures { λ _. ⌜ now (table .exit) ≡ storedAt (now (table .entry)) (i .0) (laid self) ⌝ }
     {
         let at = RECORD_SIZE * i.0;
@@ -197,7 +197,7 @@ impl Fields {
 }
 
 pub fn root(roots: &[u8], k: usize) -> Reference
-    requires { ⌜ rootSize * k + rootSize ≤ length (now roots) ⌝ }
+    requires { ⌜ InRoots (now roots) k ⌝ }
     ensures { λ r. ⌜ (r .0 ≡ rootAt (now (roots .entry)) k) × (r .0 < 65536) ⌝ }
 {
     Reference(pair(roots, ROOT_SIZE * k))

@@ -1,10 +1,10 @@
 // Checks 8 and 9: what the roots name, and what nobody names.
 ghost use mathlib.Core.Path.{_≡_};
-ghost use Prim.Native.Nat.{_+_, _*_, _<_, _≤_};
+ghost use Prim.Native.Nat.{_+_, _<_, _≤_};
 ghost use lib.ListN.{length, set};
 ghost use Rattle.lists.specs.First.{first};
 ghost use Rattle.lists.specs.Fold.{fold};
-ghost use Rattle.diagrams.specs.Layout.{recordSize, rootSize, mostRecords, records, rootCount};
+ghost use Rattle.diagrams.specs.Layout.{mostRecords, records, rootCount, InTable, InRoots};
 ghost use Rattle.flaws.specs.Tests.{deadRoot, idle};
 ghost use Rattle.flaws.specs.Marks.{noMarks, markedRoot, markedRecord, unmarked};
 use diagrams::MOST_RECORDS;
@@ -16,7 +16,7 @@ use diagrams::Reference;
 // ---- 8
 
 fn is_dead_root(table: &[u8], roots: &[u8], k: usize) -> bool
-    requires { ⌜ rootSize * k + rootSize ≤ length (now roots) ⌝ }
+    requires { ⌜ InRoots (now roots) k ⌝ }
     ensures { λ b. ⌜ b ≡ deadRoot (now (table .entry)) (now (roots .entry)) k ⌝ }
 {
     super::records::is_dead(table, diagrams::root(roots, k))
@@ -54,7 +54,7 @@ fn mark(marks: &mut [u8], x: Reference)
 }
 
 fn mark_record(marks: &mut [u8], table: &[u8], i: RecordNumber)
-    requires { ⌜ recordSize * i .0 + recordSize ≤ length (now table) ⌝ }
+    requires { ⌜ InTable (now table) (i .0) ⌝ }
     ensures { λ _. ⌜ now (marks .exit) ≡ markedRecord (now (table .entry)) (now (marks .entry)) (i .0) ⌝ }
 {
     if i.is_used(table) {
@@ -75,7 +75,7 @@ fn mark_records(marks: &mut [u8], table: &[u8])
 }
 
 fn mark_root(marks: &mut [u8], roots: &[u8], k: usize)
-    requires { ⌜ rootSize * k + rootSize ≤ length (now roots) ⌝ }
+    requires { ⌜ InRoots (now roots) k ⌝ }
     ensures { λ _. ⌜ now (marks .exit) ≡ markedRoot (now (roots .entry)) (now (marks .entry)) k ⌝ }
 {
     mark(marks, diagrams::root(roots, k));
@@ -93,7 +93,7 @@ fn mark_roots(marks: &mut [u8], roots: &[u8])
 }
 
 fn is_unmarked(table: &[u8], marks: &[u8], i: RecordNumber) -> bool
-    requires { ⌜ (recordSize * i .0 + recordSize ≤ length (now table)) × (i .0 + 2 < length (now marks)) ⌝ }
+    requires { ⌜ InTable (now table) (i .0) × (i .0 + 2 < length (now marks)) ⌝ }
     ensures { λ b. ⌜ b ≡ unmarked (now (table .entry)) (now (marks .entry)) (i .0) ⌝ }
 {
     let at = i.0 + 2;

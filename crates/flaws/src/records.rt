@@ -1,10 +1,9 @@
 // Checks 4 to 7, record by record, and the number of used records.
 ghost use mathlib.Core.Path.{_≡_};
-ghost use Prim.Native.Nat.{_+_, _*_, _<_, _≤_};
-ghost use lib.ListN.{length};
+ghost use Prim.Native.Nat.{_+_, _<_, _≤_};
 ghost use Rattle.lists.specs.First.{first};
 ghost use Rattle.lists.specs.Count.{count};
-ghost use Rattle.diagrams.specs.Layout.{recordSize, records, isUsed};
+ghost use Rattle.diagrams.specs.Layout.{records, isUsed, InTable};
 ghost use Rattle.orders.specs.Permutation.{ceiling};
 ghost use Rattle.orders.specs.Order.{levelIn};
 ghost use Rattle.flaws.specs.Tests.{dead, malformed, notUnder, notBelow, lowIsHigh, sameRecord, repeats};
@@ -30,7 +29,7 @@ pub fn is_dead(table: &[u8], x: Reference) -> bool
 }
 
 fn is_malformed(table: &[u8], n: usize, i: RecordNumber) -> bool
-    requires { ⌜ recordSize * i .0 + recordSize ≤ length (now table) ⌝ }
+    requires { ⌜ InTable (now table) (i .0) ⌝ }
     ensures { λ b. ⌜ b ≡ malformed (now (table .entry)) n (i .0) ⌝ }
 {
     let variable = i.variable(table);
@@ -74,7 +73,7 @@ fn is_not_under(table: &[u8], order: Order, n: usize, level: usize, x: Reference
 }
 
 fn is_not_below(table: &[u8], order: Order, n: usize, i: RecordNumber) -> bool
-    requires { ⌜ (recordSize * i .0 + recordSize ≤ length (now table)) × (n ≤ ceiling) ⌝ }
+    requires { ⌜ InTable (now table) (i .0) × (n ≤ ceiling) ⌝ }
     ensures { λ b. ⌜ b ≡ notBelow (now (table .entry)) (levelIn (order .levels) n) (i .0) ⌝ }
 {
     let level = order.level_of(n, i.variable(table));
@@ -101,7 +100,7 @@ pub fn first_not_below(table: &[u8], order: Order, n: usize) -> usize
 // ---- 6
 
 fn is_low_high(table: &[u8], i: RecordNumber) -> bool
-    requires { ⌜ recordSize * i .0 + recordSize ≤ length (now table) ⌝ }
+    requires { ⌜ InTable (now table) (i .0) ⌝ }
     ensures { λ b. ⌜ b ≡ lowIsHigh (now (table .entry)) (i .0) ⌝ }
 {
     let low = i.low(table);
@@ -126,7 +125,7 @@ pub fn first_low_is_high(table: &[u8]) -> usize
 // ---- 7
 
 fn is_same(table: &[u8], i: RecordNumber, j: RecordNumber) -> bool
-    requires { ⌜ (recordSize * i .0 + recordSize ≤ length (now table)) × (recordSize * j .0 + recordSize ≤ length (now table)) ⌝ }
+    requires { ⌜ InTable (now table) (i .0) × InTable (now table) (j .0) ⌝ }
     ensures { λ b. ⌜ b ≡ sameRecord (now (table .entry)) (i .0) (j .0) ⌝ }
 {
     let variable = i.variable(table);
@@ -137,7 +136,7 @@ fn is_same(table: &[u8], i: RecordNumber, j: RecordNumber) -> bool
 
 // The first record before i that is the same; i where there is none.
 fn first_same(table: &[u8], i: RecordNumber) -> usize
-    requires { ⌜ recordSize * i .0 + recordSize ≤ length (now table) ⌝ }
+    requires { ⌜ InTable (now table) (i .0) ⌝ }
     ensures { λ x. ⌜ x ≡ first (sameRecord (now (table .entry)) (i .0)) (i .0) ⌝ }
 {
     let m = i.0;
@@ -152,7 +151,7 @@ fn first_same(table: &[u8], i: RecordNumber) -> usize
 }
 
 fn is_repeat(table: &[u8], i: RecordNumber) -> bool
-    requires { ⌜ recordSize * i .0 + recordSize ≤ length (now table) ⌝ }
+    requires { ⌜ InTable (now table) (i .0) ⌝ }
     ensures { λ b. ⌜ b ≡ repeats (now (table .entry)) (i .0) ⌝ }
 {
     i.is_used(table) & (first_same(table, i) < i.0)

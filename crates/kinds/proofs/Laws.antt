@@ -1,16 +1,15 @@
 -- What a record is to a swap, by its bytes: one law for each way out of a function, over plain variables.
-use Prim.Native.Nat.{ℕ, _+_, _-_, _*_, _≤_, _<_}
+use Prim.Native.Nat.{ℕ, _-_, _≤_, _<_}
 use mathlib.Core.Bool.{Bool, true, false, not, _&&_, _||_}
 use mathlib.Core.List.{List}
-use mathlib.Core.Path.{_≡_, refl, ap, sym, _∙_}
+use mathlib.Core.Path.{_≡_, refl, sym, _∙_}
 use native.Mathlib.Omega.{arith}
 use borrow.Author.Needs.{needs}
 use borrow.Author.Tests.{eqb-true, eqb-false, ltb-true}
 use lib.Dec.{eqb, ltb}
-use lib.ListN.{length}
 use Rattle.lists.specs.Collect.{Collected}
 use Rattle.lists.specs.Which.{which-agrees}
-use Rattle.diagrams.specs.Layout.{recordSize, records, variableAt, lowAt, highAt, isFree, isUsed}
+use Rattle.diagrams.specs.Layout.{records, variableAt, lowAt, highAt, isFree, isUsed, InTable}
 use Rattle.diagrams.specs.Node.{no-constant, free, pick, at, ref}
 use Rattle.diagrams.specs.Decode.{decode}
 use Rattle.diagrams.specs.Lookup.{lookup, node-of, free-of, past-of, Stored, record-at, stored}
@@ -57,16 +56,16 @@ module _ (t : List ℕ) (x y : ℕ) where
 -- ---- a grandchild
 
 module _ (t : List ℕ) (y : ℕ) where
-  inside : {r v l h : ℕ} → Stored t r v l h → (2 ≤ r) × (recordSize * (r - 2) + recordSize ≤ length t)
+  inside : {r v l h : ℕ} → Stored t r v l h → (2 ≤ r) × InTable t (r - 2)
   inside (record-at i b u) = (omega arith, omega arith)
 
-  named-inside : {b : Bool} (c : ℕ) → b ≡ isOf y (lookup t c) → b ≡ true → (2 ≤ c) × (recordSize * (c - 2) + recordSize ≤ length t)
+  named-inside : {b : Bool} (c : ℕ) → b ≡ isOf y (lookup t c) → b ≡ true → (2 ≤ c) × InTable t (c - 2)
   named-inside c e h = inside (stored t c (of-true y (lookup t c) (sym e ∙ h) .is))
 
   pub named-two : {b : Bool} (c : ℕ) → b ≡ isOf y (lookup t c) → b ≡ true → 2 ≤ c
   named-two c e h = named-inside c e h .0
 
-  pub named-there : {b : Bool} {i : ℕ} (c : ℕ) → b ≡ isOf y (lookup t c) → b ≡ true → i ≡ c - 2 → recordSize * i + recordSize ≤ length t
+  pub named-there : {b : Bool} {i : ℕ} (c : ℕ) → b ≡ isOf y (lookup t c) → b ≡ true → i ≡ c - 2 → InTable t i
   named-there c e h p = rw p (named-inside c e h .1)
 
   pub grand-self : {b : Bool} (c : ℕ) (side : Bool) → b ≡ isOf y (lookup t c) → b ≡ false → c ≡ grandchild (lookup t) y side c

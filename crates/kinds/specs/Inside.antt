@@ -1,5 +1,5 @@
 -- Lists of the work area whose entries are numbers of records of the table.
-use Prim.Native.Nat.{ℕ, _+_, _*_, _≤_, _<_}
+use Prim.Native.Nat.{ℕ, _≤_, _<_}
 use mathlib.Core.Bool.{Bool, true, false}
 use mathlib.Core.List.{List}
 use mathlib.Core.Path.{_≡_, refl, sym}
@@ -10,7 +10,7 @@ use lib.ListN.{length, getD}
 use Rattle.lists.specs.Collect.{Collected}
 use Rattle.lists.specs.Entries.{entry-below, entry-passes}
 use Rattle.lists.specs.Says.{true-false}
-use Rattle.diagrams.specs.Layout.{recordSize, records, variableAt, isFree}
+use Rattle.diagrams.specs.Layout.{records, variableAt, isFree, InTable}
 use Rattle.diagrams.specs.Node.{ref}
 use Rattle.diagrams.specs.Lookup.{lookup, free-of}
 use Rattle.one_swap.specs.Record.{isOf}
@@ -21,7 +21,7 @@ use Rattle.kinds.specs.declared.collect.Split.{Split}
 -- the first `count` entries are numbers of records of the table
 pub record Inside (t list : List ℕ) (count : ℕ) : Type 0 where
   pub room : count ≤ length list
-  pub at : (k : ℕ) → k < count → recordSize * getD list k 0 + recordSize ≤ length t
+  pub at : (k : ℕ) → k < count → InTable t (getD list k 0)
 
 -- and of used ones
 pub record InUse (t list : List ℕ) (count : ℕ) : Type 0 where
@@ -32,7 +32,7 @@ module _ (t list : List ℕ) (count k : ℕ) (i : Inside t list count) where
   pub entry-room : k < count → k < length list
   entry-room l = omega (arith, i .room)
 
-  pub entry-there : k < count → recordSize * getD list k 0 + recordSize ≤ length t
+  pub entry-there : k < count → InTable t (getD list k 0)
   entry-there l = i .at k l
 
 pub ruleset entries = (entry-room, entry-there, needs)

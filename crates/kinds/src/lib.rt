@@ -1,9 +1,8 @@
 // What a record is to this swap of the levels of x and y.
 ghost use mathlib.Core.Path.{_≡_};
 ghost use mathlib.Core.Bool.{false};
-ghost use Prim.Native.Nat.{_+_, _*_, _<_, _≤_};
-ghost use lib.ListN.{length};
-ghost use Rattle.diagrams.specs.Layout.{recordSize, isFree};
+ghost use Prim.Native.Nat.{_<_};
+ghost use Rattle.diagrams.specs.Layout.{isFree, InTable};
 ghost use Rattle.diagrams.specs.Node.{ref};
 ghost use Rattle.diagrams.specs.Lookup.{lookup};
 ghost use Rattle.one_swap.specs.Record.{isOf};
@@ -18,7 +17,7 @@ pub mod collect;
 
 // Is record i a used record of v?
 pub fn is_record_of(table: &[u8], v: Variable, i: RecordNumber) -> bool
-    requires { ⌜ recordSize * i .0 + recordSize ≤ length (now table) ⌝ }
+    requires { ⌜ InTable (now table) (i .0) ⌝ }
     ensures { λ b. ⌜ b ≡ isOf (v .0) (lookup (now (table .entry)) (ref (i .0))) ⌝ }
 {
     let w = i.variable(table);
@@ -40,7 +39,7 @@ fn names_record_of(table: &[u8], v: Variable, x: Reference) -> bool
 }
 
 pub fn is_crossing(table: &[u8], x: Variable, y: Variable, i: RecordNumber) -> bool
-    requires { ⌜ recordSize * i .0 + recordSize ≤ length (now table) ⌝ }
+    requires { ⌜ InTable (now table) (i .0) ⌝ }
     ensures { λ b. ⌜ b ≡ crosses (lookup (now (table .entry))) (x .0) (y .0) (ref (i .0)) ⌝ }
 {
     let low = i.low(table);
@@ -72,7 +71,7 @@ pub struct Grandchildren {
 }
 
 pub fn four(table: &[u8], y: Variable, i: RecordNumber) -> Grandchildren
-    requires { ⌜ (recordSize * i .0 + recordSize ≤ length (now table)) × (isFree (now table) (i .0) ≡ false) ⌝ }
+    requires { ⌜ InTable (now table) (i .0) × (isFree (now table) (i .0) ≡ false) ⌝ }
     ensures { λ g. ⌜ Grands (now (table .entry)) (y .0) (i .0) g ⌝ }
 {
     let low = i.low(table);

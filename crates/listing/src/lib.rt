@@ -3,7 +3,7 @@
 ghost use mathlib.Core.Path.{_≡_};
 ghost use Prim.Native.Nat.{_+_, _*_, _≤_};
 ghost use lib.ListN.{length};
-ghost use Rattle.diagrams.specs.Layout.{recordSize, rootCount, records, mostRecords};
+ghost use Rattle.diagrams.specs.Layout.{rootCount, records, mostRecords, InTable};
 ghost use Rattle.listing.specs.Put.{Put, Room, Printed};
 ghost use Rattle.listing.specs.Size.{roomFor};
 ghost use Rattle.listing.specs.Text.{decimal, named, joined, variableText, orderLine, contentText, recordLine, rootText, rootsLine, listing, swapsText, roomText, answerText, isRefused, printed};
@@ -79,7 +79,7 @@ fn put_order(out: &mut [u8], at: usize, order: &[u8]) -> usize
 
 // What a record holds, or that it is free.
 fn put_content(out: &mut [u8], at: usize, table: &[u8], number: RecordNumber) -> usize
-    requires { ⌜ (recordSize * number .0 + recordSize ≤ length (now table)) × Room (now out) at (contentText (now table) (number .0)) ⌝ }
+    requires { ⌜ InTable (now table) (number .0) × Room (now out) at (contentText (now table) (number .0)) ⌝ }
     ensures { λ r. ⌜ Put (now (out .entry)) at (contentText (now (table .entry)) (number .0)) (now (out .exit)) r ⌝ }
 {
     if number.is_free(table) {
@@ -91,7 +91,7 @@ fn put_content(out: &mut [u8], at: usize, table: &[u8], number: RecordNumber) ->
 }
 
 fn put_record(out: &mut [u8], at: usize, table: &[u8], i: usize) -> usize
-    requires { ⌜ (recordSize * i + recordSize ≤ length (now table)) × Room (now out) at (recordLine (now table) i) ⌝ }
+    requires { ⌜ InTable (now table) i × Room (now out) at (recordLine (now table) i) ⌝ }
     ensures { λ r. ⌜ Put (now (out .entry)) at (recordLine (now (table .entry)) i) (now (out .exit)) r ⌝ }
 {
     let after_number = put_decimal(out, at, i);

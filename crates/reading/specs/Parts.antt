@@ -11,7 +11,7 @@ use lib.Dec.{ltb}
 use lib.ListN.{length, take, drop, length-drop}
 use lib.Seq.{length-take-le}
 use Rattle.lists.specs.Says.{nowhere, either-side}
-use Rattle.diagrams.specs.Layout.{recordSize, mostRecords, records, rootCount, rootAt}
+use Rattle.diagrams.specs.Layout.{recordSize, mostRecords, records, rootCount, rootAt, InTable}
 use Rattle.diagrams.specs.Node.{Constant, ref}
 use Rattle.flaws.specs.Meaning.{root-says}
 use Rattle.checks.specs.Stages.{judge, clear-only, row-refuses, row-passes, place-refuses, place-passes}
@@ -53,7 +53,7 @@ module _ (t r o : List ℕ) (position : ℕ) {v : Verdict} (judged : v ≡ judge
       record-part h s l = rw (← shows-root l, ← is, le-leb 2 x (ltb-false x 2 (sym flag ∙ h)), s)
 
       -- an accepted table has the records that its roots name
-      pub root-inside : {i : ℕ} → b ≡ false → i ≡ x - 2 → position < rootCount r → recordSize * i + recordSize ≤ length t
+      pub root-inside : {i : ℕ} → b ≡ false → i ≡ x - 2 → position < rootCount r → InTable t i
       root-inside {i} h s l =
           let g = passes-all t r o (clear-only (checkStages t r o) (sym judged ∙ clear)) in
           let z : i < records t = lt-of-not-le (λ m. nowhere (root-says t r) (g .c8) position l (rw (← is, ← s) (ltb-false x 2 (sym flag ∙ h), inl m))) in
@@ -68,7 +68,7 @@ pub data Nothing (t r o : List ℕ) (position : ℕ) : Type 0 where
 -- the part in each case
 data Shown (t r o : List ℕ) (position : ℕ) : Type 0 where
   nothing : Nothing t r o position → noPart ≡ partOf t r o position → Shown t r o position
-  something : (i : ℕ) → checkOf t r o ≡ answer.Accepted (used t) → position < rootCount r → ref i ≡ rootAt r position → recordSize * i + recordSize ≤ length t → partAt i ≡ partOf t r o position → Shown t r o position
+  something : (i : ℕ) → checkOf t r o ≡ answer.Accepted (used t) → position < rootCount r → ref i ≡ rootAt r position → InTable t i → partAt i ≡ partOf t r o position → Shown t r o position
 
 checked-refused : (t r o : List ℕ) (k x : ℕ) → judge (checkStages t r o) ≡ verdict.Refused k x → checkOf t r o ≡ answer.Refused k x
 unfolding checkOf
@@ -101,7 +101,7 @@ module _ (t r o : List ℕ) (position : ℕ) where
   -- ---- empty exactly for these, and otherwise the eight bytes of the record that the root names
 
   module _ {table place : ℕ × ℕ} {bytes : List ℕ} (s : ShowOutcome t r o position table place bytes) where
-    eight-long : (i : ℕ) → recordSize * i + recordSize ≤ length t → length (take recordSize (drop (recordSize * i) t)) ≡ recordSize
+    eight-long : (i : ℕ) → InTable t i → length (take recordSize (drop (recordSize * i) t)) ≡ recordSize
     eight-long i l = length-take-le recordSize (drop (recordSize * i) t) (simp length-drop (omega arith))
 
     handed : (i : ℕ) → partAt i ≡ partOf t r o position → bytes ≡ take recordSize (drop (recordSize * i) t)

@@ -4,7 +4,7 @@ ghost use Prim.Native.Nat.{_+_, _*_, _<_, _≤_};
 ghost use lib.ListN.{length};
 ghost use Rattle.lists.specs.Entries.{through};
 ghost use Rattle.lists.specs.Fold.{fold};
-ghost use Rattle.diagrams.specs.Layout.{recordSize, records, rootCount};
+ghost use Rattle.diagrams.specs.Layout.{records, rootCount, InTable};
 ghost use Rattle.flaws.specs.Meaning.{Sized};
 ghost use Rattle.kinds.specs.Inside.{Inside};
 ghost use Rattle.reckoning.specs.Reckoning.{named, namedRoot, namedBy, namedOther, noNames, namesOf, unnamed};
@@ -35,7 +35,7 @@ fn count_name(names: &mut [u16], x: Reference)
 
 // The two names of a record.
 fn count_both(names: &mut [u16], table: &[u8], i: RecordNumber)
-    requires { ⌜ (recordSize * i .0 + recordSize ≤ length (now table)) × Countable (now names) 2 ⌝ }
+    requires { ⌜ InTable (now table) (i .0) × Countable (now names) 2 ⌝ }
     ensures { λ _. ⌜ now (names .exit) ≡ namedBy (now (table .entry)) (now (names .entry)) (i .0) ⌝ }
 {
     count_name(names, i.low(table));
@@ -55,7 +55,7 @@ fn count_roots(names: &mut [u16], roots: &[u8])
 }
 
 fn count_other(names: &mut [u16], table: &[u8], x: Variable, i: RecordNumber)
-    requires { ⌜ (recordSize * i .0 + recordSize ≤ length (now table)) × Countable (now names) 2 ⌝ }
+    requires { ⌜ InTable (now table) (i .0) × Countable (now names) 2 ⌝ }
     ensures { λ _. ⌜ now (names .exit) ≡ namedOther (now (table .entry)) (x .0) (now (names .entry)) (i .0) ⌝ }
 {
     if i.is_used(table) & !kinds::is_record_of(table, x, i) {

@@ -6,7 +6,7 @@ ghost use lib.ListN.{length, getD};
 ghost use Rattle.lists.specs.First.{first};
 ghost use Rattle.lists.specs.Fold.{fold};
 ghost use Rattle.lists.specs.Entries.{through};
-ghost use Rattle.diagrams.specs.Layout.{recordSize, mostRecords, isFree};
+ghost use Rattle.diagrams.specs.Layout.{mostRecords, isFree, InTable};
 ghost use Rattle.kinds.specs.Inside.{Inside, InUse};
 ghost use Rattle.reckoning.specs.Reckoning.{matchesAt, newAt, notePair, noteCrossing, slotAt, settledAt};
 use diagrams::MOST_RECORDS;
@@ -23,7 +23,7 @@ pub fn no_news() -> [u16; 4 * MOST_RECORDS]
 
 // Is entry k of the standing records the one with low a and high b?
 fn matches(table: &[u8], standing: &[u16], k: usize, a: Reference, b: Reference) -> bool
-    requires { ⌜ (k < length (now standing)) × (recordSize * getD (now standing) k 0 + recordSize ≤ length (now table)) ⌝ }
+    requires { ⌜ (k < length (now standing)) × InTable (now table) (getD (now standing) k 0) ⌝ }
     ensures { λ r. ⌜ r ≡ matchesAt (now (table .entry)) (now (standing .entry)) (a .0) (b .0) k ⌝ }
 {
     let i = collect::entry(standing, k);
@@ -107,7 +107,7 @@ fn note_crossing(
     n: usize,
     i: RecordNumber,
 ) -> usize
-    requires { ⌜ (Inside (now table) (now standing) count × (2 * n + 4 ≤ length (now news))) × ((recordSize * i .0 + recordSize ≤ length (now table)) × (isFree (now table) (i .0) ≡ false)) ⌝ }
+    requires { ⌜ (Inside (now table) (now standing) count × (2 * n + 4 ≤ length (now news))) × (InTable (now table) (i .0) × (isFree (now table) (i .0) ≡ false)) ⌝ }
     ensures { λ r. ⌜ (record { list = now (news .exit); count = r } ≡ noteCrossing (now (table .entry)) (y .0) (now (standing .entry)) count (record { list = now (news .entry); count = n }) (i .0)) × (r ≤ n + 2) ⌝ }
 {
     let g = kinds::four(table, y, i);

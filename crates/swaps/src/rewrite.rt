@@ -8,7 +8,7 @@ ghost use Rattle.lists.specs.Collect.{Collected};
 ghost use Rattle.lists.specs.Entries.{through};
 ghost use Rattle.lists.specs.Fold.{fold};
 ghost use Rattle.lists.specs.Tabulate.{tabulate};
-ghost use Rattle.diagrams.specs.Layout.{recordSize, records, isFree};
+ghost use Rattle.diagrams.specs.Layout.{recordSize, records, isFree, InTable};
 ghost use Rattle.diagrams.specs.Decode.{eight, encode};
 ghost use Rattle.diagrams.specs.Store.{laid, Fit};
 ghost use Rattle.kinds.specs.Inside.{Inside, InUse};
@@ -55,7 +55,7 @@ fn crossed(
     q: Numbers,
     i: RecordNumber,
 ) -> Fields
-    requires { ⌜ (Filled (now table) (now standing) (now news) (now slots) q × (q .y .0 < 256)) × ((recordSize * i .0 + recordSize ≤ length (now table)) × (isFree (now table) (i .0) ≡ false)) ⌝ }
+    requires { ⌜ (Filled (now table) (now standing) (now news) (now slots) q × (q .y .0 < 256)) × (InTable (now table) (i .0) × (isFree (now table) (i .0) ≡ false)) ⌝ }
     ensures { λ f. ⌜ (laid f ≡ eight (crossedAt (now (table .entry)) (q .y .0) (now (standing .entry)) (q .standing) (newsIn (now (news .entry)) q) (now (slots .entry)) (q .free) (i .0))) × Fit f ⌝ }
 {
     let y = q.y;
@@ -101,7 +101,7 @@ fn copy_records(table: &[u8], image: &mut [u8])
 }
 
 fn bury_unnamed(names: &[u16], i: RecordNumber, image: &mut [u8])
-    requires { ⌜ (recordSize * i .0 + recordSize ≤ length (now image)) × ((i .0 + 2 < length (now names)) × (i .0 < 65536)) ⌝ }
+    requires { ⌜ InTable (now image) (i .0) × ((i .0 + 2 < length (now names)) × (i .0 < 65536)) ⌝ }
     ensures { λ _. ⌜ now (image .exit) ≡ buriedAt (now (names .entry)) (now (image .entry)) (i .0) ⌝ }
 {
     if names::is_unnamed(names, i) {
