@@ -5,7 +5,7 @@ use native.Mathlib.Omega.{arith}
 use mathlib.Core.Bool.{cond}
 use mathlib.Core.List.{List, [], _∷_, _++_}
 use mathlib.Core.Path.{_≡_, refl, ap, sym, _∙_}
-use lib.ListN.{length, take, drop, getD, length-append, List·getD-append, List·getD-eq-default}
+use lib.ListN.{length, take, drop, getD, List·getD-append, List·getD-eq-default}
 use lib.Seq.{getD-append-add, take-at, drop-append-add}
 use lib.Dec.{eqb}
 use borrow.Author.Tests.{ne-eqb}
@@ -14,7 +14,7 @@ use Rattle.lists.specs.Tabulate.{tabulate, tabulate-agrees}
 use Rattle.diagrams.specs.Layout.{recordSize, records, variableAt, lowAt, highAt}
 use Rattle.diagrams.specs.Node.{Node, free, node, at}
 use Rattle.diagrams.specs.Decode.{nodeAt, decode, eight, encode, WellLaid}
-use Rattle.diagrams.specs.Store.{length-eight}
+use Rattle.diagrams.specs.Store.{length-eight, length-encode}
 
 -- the record's variable is none that stands for a free record, and all of it fits eight bytes
 abbrev pub Small : Node → Type 0
@@ -33,13 +33,8 @@ tabulate-at (a ∷ s) d = ap (λ l. a ∷ l) (tabulate-at s d)
 
 -- ---- how many bytes
 
-pub length-encode-list : (s : List Node) → length (encode s) ≡ recordSize * length s
-unfolding encode
-length-encode-list [] = refl
-length-encode-list (m ∷ s) = length-append (eight m) (encode s) ∙ omega (arith, length-encode-list s, length-eight m)
-
 pub records-encode : (s : List Node) → records (encode s) ≡ length s
-records-encode s = omega (arith, length-encode-list s)
+records-encode s = omega (arith, length-encode s)
 
 -- ---- byte j of record i
 
@@ -96,7 +91,7 @@ eight-empty (node v l h) f e = absurd (omega (arith, f .0))
 
 pub encode-laid : (s : List Node) → AllSmall s → WellLaid (encode s)
 encode-laid s f = record {
-  whole = omega (arith, length-encode-list s);
+  whole = omega (arith, length-encode s);
   zeros = λ i b.
       let c : i < length s = rw (records-encode s) at b in
       let z = eight-zeros (at s i) in
@@ -129,7 +124,7 @@ encode-bytes s f k = either-side k (length (encode s)) inside outside
   where
     inside : k < length (encode s) → getD (encode s) k 0 < 256
     inside h =
-        let b : k / recordSize < length s = omega (arith, length-encode-list s) in
+        let b : k / recordSize < length s = omega (arith, length-encode s) in
         let e : k ≡ recordSize * (k / recordSize) + k % recordSize = omega arith in
         rw (ap (λ i. getD (encode s) i 0) e ∙ byte-of s (k / recordSize) (k % recordSize) b (omega arith)) (byte-at (eight (at s (k / recordSize))) (eight-bytes (at s (k / recordSize)) (f (k / recordSize) b)) (k % recordSize))
 

@@ -11,7 +11,7 @@ use lib.Seq.{take-at}
 use Rattle.lists.specs.Copy.{copied, copied-first}
 use Rattle.lists.specs.Fold.{Steps, steps-end}
 use Rattle.lists.specs.Says.{true-false}
-use Rattle.lists.specs.Tabulate.{tabulate, tabulate-agrees}
+use Rattle.lists.specs.Tabulate.{tabulate, length-tabulate, tabulate-agrees}
 use Rattle.diagrams.specs.Layout.{recordSize, records}
 use Rattle.diagrams.specs.Node.{Node, at}
 use Rattle.diagrams.specs.Decode.{decode, encode}
@@ -67,7 +67,7 @@ module _ {t : List ℕ} {x y : ℕ} {standing : List ℕ} {m : ℕ} {p : News} {
         ∙ ap (λ n. tabulate n (after (at (decode t)) n x y (rootsOf r))) (sym (length-decode t))
 
     long-encode : length (encode (tabulate (records t) nodes)) ≡ length t
-    long-encode = length-encode (records t) nodes ∙ omega arith
+    long-encode = length-encode (tabulate (records t) nodes) ∙ ap (λ n. recordSize * n) (length-tabulate (records t) nodes) ∙ omega arith
 
     pub prepared-made : {l : List ℕ} → l ≡ encode (tabulate (records t) (rewritten t x y standing m p slots frees names)) ++ drop (recordSize * records t) image → Prepared t r x y room.Made l
     unfolding tableAfter nodes

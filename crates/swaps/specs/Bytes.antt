@@ -15,7 +15,8 @@ use Rattle.orders.specs.Exchange.{exchange, length-exchange, exchange-permutati
 use Rattle.diagrams.specs.Layout.{recordSize, mostRecords, records, rootCount, variableAt, lowAt, highAt, isFree, isUsed, rootAt}
 use Rattle.diagrams.specs.Node.{Node, free, node, Constant, at, ref, look}
 use Rattle.diagrams.specs.Decode.{nodeAt, decode, eight, WellLaid, encode-decode}
-use Rattle.diagrams.specs.Encode.{Small, AllSmall, length-encode-list, decode-encode, encode-laid, encode-bytes, take-record}
+use Rattle.diagrams.specs.Store.{length-encode}
+use Rattle.diagrams.specs.Encode.{Small, AllSmall, decode-encode, encode-laid, encode-bytes, take-record}
 use Rattle.diagrams.specs.Lookup.{rootsOf, lookup, length-roots, root-is}
 use Rattle.diagrams.specs.Bryant.{Vertex}
 use Rattle.diagrams.specs.Levels.{free-node}
@@ -48,7 +49,7 @@ length-decode t = length-tabulate (records t) (nodeAt t)
 module _ (t r : List ℕ) (x y : ℕ) where
   bytes-of : length (tableAfter t r x y) ≡ recordSize * records t
   unfolding tableAfter
-  bytes-of = length-encode-list (swapped (decode t) x y (rootsOf r)) ∙ ap (λ n. recordSize * n) (length-swapped (decode t) x y (rootsOf r) ∙ length-decode t)
+  bytes-of = length-encode (swapped (decode t) x y (rootsOf r)) ∙ ap (λ n. recordSize * n) (length-swapped (decode t) x y (rootsOf r) ∙ length-decode t)
 
   pub records-after : records (tableAfter t r x y) ≡ records t
   records-after = omega (arith, bytes-of)
@@ -261,11 +262,11 @@ module _ (t r o : List ℕ) (k : ℕ) (usable : Usable t r o) (level : k + 1 < l
   unfolding swapOf
   swap-is = ap (swapJudged t r o k) swap-clear
 
-  -- made exactly when needed is not above free
+  -- it is made when needed is not above free; `made-only` says that it is made in no other case
   pub swap-made : Needed t r (xAt o k) (yAt o k) ≤ Free t r (xAt o k) (yAt o k) → swapOf t r o k ≡ record { answer = Made; table = tableAfter t r (xAt o k) (yAt o k); order = exchange o k }
   swap-made h = swap-is ∙ ap (swapAfter t r o k) (room-made t r (xAt o k) (yAt o k) h)
 
-  -- "No room is given exactly when needed is above free", with these two; and then nothing changes
+  -- "No room is given exactly when needed is above free": when it is, with these two, and nothing changes; `lacks-only` says that it is given in no other case
   pub swap-lacks : Free t r (xAt o k) (yAt o k) < Needed t r (xAt o k) (yAt o k)
       → swapOf t r o k ≡ record { answer = NoRoom k (Needed t r (xAt o k) (yAt o k)) (Free t r (xAt o k) (yAt o k)); table = t; order = o }
   swap-lacks h = swap-is ∙ ap (swapAfter t r o k) (no-room t r (xAt o k) (yAt o k) h)
@@ -281,19 +282,38 @@ module _ (t r o : List ℕ) (k : ℕ) where
       there : AllPass (stageAt 12 k (noLevel o k) ∷ []) → k + 1 < length o
       there (also h rest) = omega (arith, leb-false (length o - 1) k (passed-only k h))
 
-  made-clear : (v : Verdict) → swapJudged t r o k v .answer ≡ Made → v ≡ verdict.Clear
-  made-clear verdict.Clear e = refl
-  made-clear (verdict.Refused n p) e = let z : _≡_ {A = ℕ} 0 1 = cc in absurd (omega arith)
+  -- an answer that is no refusal comes from a table that passed
+  passed : (a : Swapping) → swapOf t r o k .answer ≡ a → ((n p : ℕ) → a ≡ Refused n p → ⊥) → judge (swapStages t r o k) ≡ verdict.Clear
+  unfolding swapOf
+  passed a e f = go (judge (swapStages t r o k)) e
+    where
+      go : (v : Verdict) → swapJudged t r o k v .answer ≡ a → v ≡ verdict.Clear
+      go verdict.Clear q = refl
+      go (verdict.Refused n p) q = absurd (f n p (sym q))
 
   pub made-only : swapOf t r o k .answer ≡ Made → (Usable t r o × (k + 1 < length o)) × (fitsIn t r (xAt o k) (yAt o k) ≡ true)
   unfolding swapOf
   made-only e =
-      let c : judge (swapStages t r o k) ≡ verdict.Clear = made-clear (judge (swapStages t r o k)) e in
+      let c : judge (swapStages t r o k) ≡ verdict.Clear = passed Made e (λ n p q. let z : _≡_ {A = ℕ} 0 1 = cc in absurd (omega arith)) in
       (swap-starts (clear-only (swapStages t r o k) c), fits-if t r (xAt o k) (yAt o k) (room-made-only t r (xAt o k) (yAt o k) (go (roomOf t r (xAt o k) (yAt o k)) (rw c at e))))
     where
       go : (a : Room) → swapAfter t r o k a .answer ≡ Made → a ≡ room.Made
       go room.Made q = refl
       go (room.NoRoom n f) q = let z : _≡_ {A = ℕ} 0 1 = cc in absurd (omega arith)
+
+  pub lacks-only : (j n f : ℕ) → swapOf t r o k .answer ≡ NoRoom j n f
+      → (Usable t r o × (k + 1 < length o)) × (Free t r (xAt o k) (yAt o k) < Needed t r (xAt o k) (yAt o k))
+      × (j ≡ k) × (n ≡ Needed t r (xAt o k) (yAt o k)) × (f ≡ Free t r (xAt o k) (yAt o k))
+  unfolding swapOf
+  lacks-only j n f e =
+      let c : judge (swapStages t r o k) ≡ verdict.Clear = passed (NoRoom j n f) e (λ m p q. let z : _≡_ {A = ℕ} 0 1 = cc in absurd (omega arith)) in
+      let w = go (roomOf t r (xAt o k) (yAt o k)) (rw c at e) in
+      let l = no-room-only t r (xAt o k) (yAt o k) n f (w .1) in
+      (swap-starts (clear-only (swapStages t r o k) c), l .0, w .0, l .1, l .2)
+    where
+      go : (a : Room) → swapAfter t r o k a .answer ≡ NoRoom j n f → (j ≡ k) × (a ≡ room.NoRoom n f)
+      go room.Made q = let z : _≡_ {A = ℕ} 0 1 = cc in absurd (omega arith)
+      go (room.NoRoom m g) q = let a : m ≡ n = cc in let b : g ≡ f = cc in ((cc), rw (a, b))
 
   -- so a made swap leaves an accepted table under the exchanged order, and every root's values
   module _ (made : swapOf t r o k .answer ≡ Made) where
