@@ -11,6 +11,7 @@
 #include "relay.h"
 
 #define LIST 8
+#define LEVELS 32
 #define UNTOUCHED UINT32_C(0xA5A55A5A)
 
 /* 0: 1 (0,1); 1: 0 (0,2); 2: free; root 3; order 0 1 */
@@ -155,6 +156,35 @@ static int read_a(const char *name, uint32_t position, uint8_t input_0,
     return differs(name, &lent, written, expected);
 }
 
+/* The longest way down there is: 32 records, each the high child of the one
+ * before, under inputs that are all 1 but perhaps the last. */
+static int read_down(const char *name, uint8_t last_input, uint32_t value)
+{
+    uint8_t table[8 * LEVELS] = {0};
+    uint8_t order[LEVELS];
+    uint8_t inputs[LEVELS];
+    const uint8_t root[2] = {2, 0};
+    uint32_t list[2];
+    size_t written;
+    uint8_t level;
+
+    for (level = 0; level < LEVELS; level++) {
+        table[8 * level] = level;
+        table[8 * level + 4] = level + 1 < LEVELS ? level + 3 : 1;
+        order[level] = level;
+        inputs[level] = 1;
+    }
+    inputs[LEVELS - 1] = last_input;
+    written = relay_read(table, sizeof table, root, sizeof root, order,
+                         sizeof order, 0, inputs, sizeof inputs, list, 2);
+    if (written == 2 && list[0] == 0 && list[1] == value) {
+        return 0;
+    }
+    printf("boundary: %s: %zu written, %" PRIu32 " %" PRIu32 "\n", name,
+           written, list[0], list[1]);
+    return 1;
+}
+
 static int reads(void)
 {
     struct expected value_0 = {2, {0, 0}, case_a, order_0_1};
@@ -169,7 +199,9 @@ static int reads(void)
            read_a("read A under 1 1", 0, 1, 1, LIST, value_1) ||
            read_a("read A, no such root", 1, 1, 1, LIST, no_root) ||
            read_a("read A under 1 2", 0, 1, 2, LIST, no_input) ||
-           read_a("read A, list of 1", 0, 1, 1, 1, nothing);
+           read_a("read A, list of 1", 0, 1, 1, 1, nothing) ||
+           read_down("read 32 levels down, last input 1", 1, 1) ||
+           read_down("read 32 levels down, last input 0", 0, 0);
 }
 
 static int show(const char *name, const uint8_t *table, uint32_t position,

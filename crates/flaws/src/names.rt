@@ -93,15 +93,15 @@ fn mark_roots(marks: &mut [u8], roots: &[u8])
 }
 
 fn is_unmarked(table: &[u8], marks: &[u8], i: RecordNumber) -> bool
-    requires { ⌜ InTable (now table) (i .0) × (i .0 + 2 < length (now marks)) ⌝ }
+    requires { ⌜ InTable (now table) (i .0) × ((i .0 + 2 < length (now marks)) × (i .0 < 65536)) ⌝ }
     ensures { λ b. ⌜ b ≡ unmarked (now (table .entry)) (now (marks .entry)) (i .0) ⌝ }
 {
-    let at = i.0 + 2;
+    let at = i.reference().0;
     i.is_used(table) & !(marks[at] == 1)
 }
 
 fn first_unmarked(table: &[u8], marks: &[u8]) -> usize
-    requires { ⌜ records (now table) + 2 ≤ length (now marks) ⌝ }
+    requires { ⌜ (records (now table) + 2 ≤ length (now marks)) × (records (now table) ≤ mostRecords) ⌝ }
     ensures { λ x. ⌜ x ≡ first (unmarked (now (table .entry)) (now (marks .entry))) (records (now (table .entry))) ⌝ }
 {
     let m = table.len() / RECORD_SIZE;

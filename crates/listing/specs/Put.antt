@@ -2,24 +2,33 @@
 use Prim.Native.Nat.{ℕ, zero, suc, _+_, _≤_, _<_, zero-le}
 use mathlib.Core.List.{List, [], _++_, append-assoc, append-nil}
 use mathlib.Core.Logic.{⊎-elim}
-use mathlib.Core.Path.{_≡_, refl, ap, sym, _∙_}
+use mathlib.Core.Path.{_≡_, refl, ap, ap₂, sym, _∙_}
 use native.Mathlib.Nat.{not-suc-le-zero, eq-or-lt-of-le, le-of-suc-le-suc}
 use native.Mathlib.Omega.{arith}
 use native.Mathlib.Numerals.{add-one}
-use lib.ListN.{length, take, length-append}
+use lib.ListN.{length, take, drop, length-append, take-append-drop}
+use lib.Seq.{drop-drop}
 use Rattle.listing.specs.Text.{joined}
 
--- the list was a and is b; the text was put at `at`, and r is the place after it. What stood before it still does
+-- the list was a and is b; the text was put at `at`, and r is the place after it. What stood before it and behind it still does
 pub record Put (a : List ℕ) (at : ℕ) (text b : List ℕ) (r : ℕ) : Type 0 where
   pub same : length b ≡ length a
   pub moved : r ≡ at + length text
   pub written : take r b ≡ take at a ++ text
+  pub behind : drop r b ≡ drop r a
 
--- the first n bytes of a list are the text
-pub record Printed (text b : List ℕ) (n : ℕ) : Type 0 where
+-- the list was a and is b: its first n bytes are the text, and those behind them are what they were
+pub record Printed (text a b : List ℕ) (n : ℕ) : Type 0 where
   pub within : n ≤ length b
   pub counts : n ≡ length (take n b)
   pub written : take n b ≡ text
+  pub behind : drop n b ≡ drop n a
+
+-- one outcome for each input
+pub print-one : {text a b c : List ℕ} {m n : ℕ} → Printed text a b m → Printed text a c n → (m ≡ n) × (b ≡ c)
+print-one {text} {a} {b} {c} {m} {n} p q =
+    let e : m ≡ n = p .counts ∙ ap length (p .written ∙ sym (q .written)) ∙ sym (q .counts) in
+    (e, sym (take-append-drop m b) ∙ ap₂ (λ (x y : List ℕ). x ++ y) (p .written ∙ sym (q .written)) (p .behind ∙ ap (λ k. drop k a) e ∙ sym (q .behind)) ∙ take-append-drop n c)
 
 -- the list has room for a text
 pub record Room (a : List ℕ) (at : ℕ) (text : List ℕ) : Type 0 where
@@ -32,13 +41,14 @@ pub room-next : {a b t : List ℕ} {at r : ℕ} (u : List ℕ) → Put a at t b 
 room-next {a} {b} {t} u p h = record { fits = omega (arith, length-append t u, p .same, p .moved, h .fits) }
 
 pub put-nothing : {a : List ℕ} {at : ℕ} → Put a at [] a at
-put-nothing {a} {at} = record { same = refl; moved = omega arith; written = sym (append-nil (take at a)) }
+put-nothing {a} {at} = record { same = refl; moved = omega arith; written = sym (append-nil (take at a)); behind = refl }
 
 pub put-both : {a b c t u : List ℕ} {at r s : ℕ} → Put a at t b r → Put b r u c s → Put a at (t ++ u) c s
 put-both {a} {b} {c} {t} {u} {at} {r} {s} p q = record {
   same = q .same ∙ p .same;
   moved = omega (arith, length-append t u, p .moved, q .moved);
   written = q .written ∙ ap (λ l. l ++ u) (p .written) ∙ append-assoc (take at a) t u;
+  behind = q .behind ∙ rw (q .moved) (sym (drop-drop (length u) r b) ∙ ap (drop (length u)) (p .behind) ∙ drop-drop (length u) r a);
 }
 
 -- ---- the texts f 0 to f (m - 1), put by a loop at i of m

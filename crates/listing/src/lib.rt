@@ -90,12 +90,12 @@ fn put_content(out: &mut [u8], at: usize, table: &[u8], number: RecordNumber) ->
     put_named(out, after_low, b" ", number.high(table).0)
 }
 
-fn put_record(out: &mut [u8], at: usize, table: &[u8], i: usize) -> usize
-    requires { ⌜ InTable (now table) i × Room (now out) at (recordLine (now table) i) ⌝ }
-    ensures { λ r. ⌜ Put (now (out .entry)) at (recordLine (now (table .entry)) i) (now (out .exit)) r ⌝ }
+fn put_record(out: &mut [u8], at: usize, table: &[u8], i: RecordNumber) -> usize
+    requires { ⌜ InTable (now table) (i .0) × Room (now out) at (recordLine (now table) (i .0)) ⌝ }
+    ensures { λ r. ⌜ Put (now (out .entry)) at (recordLine (now (table .entry)) (i .0)) (now (out .exit)) r ⌝ }
 {
-    let after_number = put_decimal(out, at, i);
-    let after_content = put_content(out, after_number, table, RecordNumber(i));
+    let after_number = put_decimal(out, at, i.0);
+    let after_content = put_content(out, after_number, table, i);
     put(out, after_content, b"\n")
 }
 
@@ -107,7 +107,7 @@ fn put_records(out: &mut [u8], at: usize, table: &[u8]) -> usize
     let mut next = at;
     let mut i = 0;
     while i < n {
-        next = put_record(out, next, table, i);
+        next = put_record(out, next, table, RecordNumber(i));
         i += 1;
     }
     next
@@ -214,7 +214,7 @@ fn is_refused(answer: Slice) -> bool
 // All that the program prints, from the first byte of `out` on; how many bytes that is.
 pub fn print(out: &mut [u8], answer: Slice, table: &[u8], roots: &[u8], order: &[u8]) -> usize
     requires { ⌜ (records (now table) ≤ mostRecords) × (roomFor (now table) (now roots) (now order) ≤ length (now out)) ⌝ }
-    ensures { λ n. ⌜ Printed (printed answer (now (table .entry)) (now (roots .entry)) (now (order .entry))) (now (out .exit)) n ⌝ }
+    ensures { λ n. ⌜ Printed (printed answer (now (table .entry)) (now (roots .entry)) (now (order .entry))) (now (out .entry)) (now (out .exit)) n ⌝ }
 {
     let after_answer = put_answer(out, answer);
     let after_line = put(out, after_answer, b"\n");

@@ -21,7 +21,6 @@ use Rattle.checks.specs.Theorems.{Bounded, refusal-small}
 use Rattle.checks.specs.Usable.{Usable, usable-then, all-pass}
 use Rattle.checks.specs.declared.Verdict.{Verdict}
 use Rattle.checks.specs.declared.Verdict.the-variants as verdict
-use Rattle.checks.specs.declared.Answer.the-variants as answer
 use Rattle.reading.specs.Read.{inputOf, noRoot, badInputs, readStages, rootValue, readAfter, readOf, ReadOutcome}
 use Rattle.reading.specs.Show.{ShowOutcome}
 use Rattle.reading.specs.declared.Reading.{Reading}

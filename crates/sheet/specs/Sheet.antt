@@ -1,4 +1,4 @@
--- Cases A to H of the bench sheet: "a single table of examples under one claim that covers every row". Each row is one run, over the bytes.
+-- Cases A to H and J of the bench sheet: "a single table of examples under one claim that covers every row". Each row is one run, over the bytes.
 use Prim.Native.Nat.{ℕ, _/_, _%_}
 use mathlib.Core.List.{List, [], _∷_, map}
 use mathlib.Core.Path.{_≡_, refl}
@@ -16,7 +16,7 @@ use Rattle.orders.specs.Inversions.{inverted, left}
 use Rattle.orders.specs.Plans.{differsAt, same?, bringUp, nearest}
 use Rattle.flaws.specs.Tests.{badSizes, dead, malformed, notUnder, notBelow, lowIsHigh, sameRecord, repeats, deadRoot, rootNames, recordNames, idle}
 use Rattle.checks.specs.Stages.{only, judged}
-use Rattle.checks.specs.Check.{tableStages}
+use Rattle.checks.specs.Check.{tableStages, used}
 use Rattle.one_swap.specs.Record.{lowOf, highOf, isFreeNode, isOf, same}
 use Rattle.one_swap.specs.Swap as one
 use Rattle.one_swap.specs.Swap.{grandchild, f00, f01, f10, f11, crosses, asked, stands, isNew, wanted, news, names, dies, slots, slotOf, X, becomes, needed, freeCount, fits, turn, filled, swapped}
@@ -35,12 +35,17 @@ pub record Given : Type 0 where
   pub target : List ℕ
   pub budget : ℕ
 
--- its answer, and the records and the order afterwards
+-- its answer, the records and the order afterwards, and how many records are used then
 pub record Row : Type 0 where
   pub given : Given
   pub answer : Slice
   pub records : List Node
   pub order : List ℕ
+  pub used : ℕ
+
+pub record Outcome : Type 0 where
+  pub ran : Ran
+  pub used : ℕ
 
 -- a root is two bytes, little end first
 unfoldable pub rootBytes : List ℕ → List ℕ
@@ -48,36 +53,39 @@ rootBytes [] = []
 rootBytes (x ∷ s) = x % 256 ∷ x / 256 ∷ rootBytes s
 
 -- what the run gives, by the definition in its contract
-unfoldable pub outcome : Row → Ran
-outcome row = let g = row .given in runOf (encode (g .records)) (rootBytes (g .roots)) (g .order) (g .target) (g .budget)
+unfoldable pub outcome : Row → Outcome
+outcome row =
+    let g = row .given in
+    let w = runOf (encode (g .records)) (rootBytes (g .roots)) (g .order) (g .target) (g .budget) in
+    record { ran = w; used = used (w .table) }
 
 -- what the sheet says
-unfoldable pub expected : Row → Ran
-expected row = record { answer = row .answer; table = encode (row .records); order = row .order }
+unfoldable pub expected : Row → Outcome
+expected row = record { ran = record { answer = row .answer; table = encode (row .records); order = row .order }; used = row .used }
 
--- order 0 1, target 1 0, budget 1
-unfoldable pub swap : List Node → List ℕ → Slice → List Node → List ℕ → Row
-swap t r a t′ o = record { given = record { records = t; roots = r; order = 0 ∷ 1 ∷ []; target = 1 ∷ 0 ∷ []; budget = 1 }; answer = a; records = t′; order = o }
+-- order 0 1, target 1 0
+unfoldable pub swap : List Node → List ℕ → ℕ → Slice → List Node → List ℕ → ℕ → Row
+swap t r b a t′ o u = record { given = record { records = t; roots = r; order = 0 ∷ 1 ∷ []; target = 1 ∷ 0 ∷ []; budget = b }; answer = a; records = t′; order = o; used = u }
 
 -- no records, no roots
 unfoldable pub orders : List ℕ → List ℕ → ℕ → Slice → List ℕ → Row
-orders o g b a o′ = record { given = record { records = []; roots = []; order = o; target = g; budget = b }; answer = a; records = []; order = o′ }
+orders o g b a o′ = record { given = record { records = []; roots = []; order = o; target = g; budget = b }; answer = a; records = []; order = o′; used = 0 }
 
 unfoldable pub rows : List Row
 rows =
     -- A
-    swap (node 1 0 1 ∷ node 0 0 2 ∷ free ∷ []) (3 ∷ []) (Done 1 0) (free ∷ node 1 0 4 ∷ node 0 0 1 ∷ []) (1 ∷ 0 ∷ [])
+    swap (node 1 0 1 ∷ node 0 0 2 ∷ free ∷ []) (3 ∷ []) 1 (Done 1 0) (free ∷ node 1 0 4 ∷ node 0 0 1 ∷ []) (1 ∷ 0 ∷ []) 2
     -- B: A with only records 0 and 1
-    ∷ swap (node 1 0 1 ∷ node 0 0 2 ∷ []) (3 ∷ []) (NoRoom 0 1 0 1 0) (node 1 0 1 ∷ node 0 0 2 ∷ []) (0 ∷ 1 ∷ [])
-    -- C: A with roots 3 and 2: record 0 stays
-    ∷ swap (node 1 0 1 ∷ node 0 0 2 ∷ free ∷ []) (3 ∷ 2 ∷ []) (Done 1 0) (node 1 0 1 ∷ node 1 0 4 ∷ node 0 0 1 ∷ []) (1 ∷ 0 ∷ [])
+    ∷ swap (node 1 0 1 ∷ node 0 0 2 ∷ []) (3 ∷ []) 1 (NoRoom 0 1 0 1 0) (node 1 0 1 ∷ node 0 0 2 ∷ []) (0 ∷ 1 ∷ []) 2
+    -- C: A with roots 3 and 2: record 0 stays; three used
+    ∷ swap (node 1 0 1 ∷ node 0 0 2 ∷ free ∷ []) (3 ∷ 2 ∷ []) 1 (Done 1 0) (node 1 0 1 ∷ node 1 0 4 ∷ node 0 0 1 ∷ []) (1 ∷ 0 ∷ []) 3
     -- D: none free, needed 0
-    ∷ swap (node 1 0 1 ∷ node 0 0 2 ∷ node 0 0 1 ∷ []) (3 ∷ 4 ∷ []) (Done 1 0) (free ∷ node 1 0 4 ∷ node 0 0 1 ∷ []) (1 ∷ 0 ∷ [])
+    ∷ swap (node 1 0 1 ∷ node 0 0 2 ∷ node 0 0 1 ∷ []) (3 ∷ 4 ∷ []) 1 (Done 1 0) (free ∷ node 1 0 4 ∷ node 0 0 1 ∷ []) (1 ∷ 0 ∷ []) 2
     -- E: a swap alters the order only
-    ∷ swap (node 0 0 1 ∷ node 1 0 1 ∷ []) (2 ∷ 3 ∷ []) (Done 1 0) (node 0 0 1 ∷ node 1 0 1 ∷ []) (1 ∷ 0 ∷ [])
+    ∷ swap (node 0 0 1 ∷ node 1 0 1 ∷ []) (2 ∷ 3 ∷ []) 1 (Done 1 0) (node 0 0 1 ∷ node 1 0 1 ∷ []) (1 ∷ 0 ∷ []) 2
     -- F: exclusive or; and with one record fewer
-    ∷ swap (node 1 0 1 ∷ node 1 1 0 ∷ node 0 2 3 ∷ free ∷ free ∷ []) (4 ∷ []) (Done 1 0) (free ∷ free ∷ node 1 5 6 ∷ node 0 0 1 ∷ node 0 1 0 ∷ []) (1 ∷ 0 ∷ [])
-    ∷ swap (node 1 0 1 ∷ node 1 1 0 ∷ node 0 2 3 ∷ free ∷ []) (4 ∷ []) (NoRoom 0 1 0 2 1) (node 1 0 1 ∷ node 1 1 0 ∷ node 0 2 3 ∷ free ∷ []) (0 ∷ 1 ∷ [])
+    ∷ swap (node 1 0 1 ∷ node 1 1 0 ∷ node 0 2 3 ∷ free ∷ free ∷ []) (4 ∷ []) 1 (Done 1 0) (free ∷ free ∷ node 1 5 6 ∷ node 0 0 1 ∷ node 0 1 0 ∷ []) (1 ∷ 0 ∷ []) 3
+    ∷ swap (node 1 0 1 ∷ node 1 1 0 ∷ node 0 2 3 ∷ free ∷ []) (4 ∷ []) 1 (NoRoom 0 1 0 2 1) (node 1 0 1 ∷ node 1 1 0 ∷ node 0 2 3 ∷ free ∷ []) (0 ∷ 1 ∷ []) 3
     -- G: by way of 0 2 1 and 2 0 1; budget 2 gives paused, left 1
     ∷ orders (0 ∷ 1 ∷ 2 ∷ []) (2 ∷ 1 ∷ 0 ∷ []) 1 (Paused 1 2) (0 ∷ 2 ∷ 1 ∷ [])
     ∷ orders (0 ∷ 1 ∷ 2 ∷ []) (2 ∷ 1 ∷ 0 ∷ []) 2 (Paused 2 1) (2 ∷ 0 ∷ 1 ∷ [])
@@ -86,6 +94,10 @@ rows =
     ∷ orders (0 ∷ 1 ∷ 2 ∷ 3 ∷ []) (1 ∷ 3 ∷ 0 ∷ 2 ∷ []) 1 (Paused 1 2) (1 ∷ 0 ∷ 2 ∷ 3 ∷ [])
     ∷ orders (0 ∷ 1 ∷ 2 ∷ 3 ∷ []) (1 ∷ 3 ∷ 0 ∷ 2 ∷ []) 2 (Paused 2 1) (1 ∷ 0 ∷ 3 ∷ 2 ∷ [])
     ∷ orders (0 ∷ 1 ∷ 2 ∷ 3 ∷ []) (1 ∷ 3 ∷ 0 ∷ 2 ∷ []) 9 (Done 3 0) (1 ∷ 3 ∷ 0 ∷ 2 ∷ [])
+    -- J: budget 0 in A is paused, in B no room, with order equal to target done
+    ∷ swap (node 1 0 1 ∷ node 0 0 2 ∷ free ∷ []) (3 ∷ []) 0 (Paused 0 1) (node 1 0 1 ∷ node 0 0 2 ∷ free ∷ []) (0 ∷ 1 ∷ []) 2
+    ∷ swap (node 1 0 1 ∷ node 0 0 2 ∷ []) (3 ∷ []) 0 (NoRoom 0 1 0 1 0) (node 1 0 1 ∷ node 0 0 2 ∷ []) (0 ∷ 1 ∷ []) 2
+    ∷ orders (1 ∷ 0 ∷ []) (1 ∷ 0 ∷ []) 0 (Done 0 0) (1 ∷ 0 ∷ [])
     ∷ []
 
 -- every row comes out as the sheet has it

@@ -1,6 +1,6 @@
 -- One law for each way out of a function, over plain variables: its premises are what is known there.
 use Prim.Native.Nat.{ℕ, _+_, _≤_, _<_}
-use mathlib.Core.Bool.{Bool, true, false, cond, not, _||_}
+use mathlib.Core.Bool.{Bool, true, false, cond, not}
 use mathlib.Core.List.{List}
 use mathlib.Core.Path.{_≡_, refl, ap, sym, _∙_}
 use native.Mathlib.Omega.{arith}
@@ -10,6 +10,7 @@ use lib.ListN.{length, getD}
 use lib.Seq.{getD-take}
 use Rattle.lists.specs.First.{passed-all}
 use Rattle.lists.specs.Says.{true-false}
+use Rattle.lists.specs.Truth.{or-neither}
 use Rattle.diagrams.specs.Node.{at}
 use Rattle.orders.specs.Permutation.{ceiling, Permutation}
 use Rattle.orders.specs.Exchange.{exchange}
@@ -27,7 +28,6 @@ use Rattle.checks.specs.declared.Verdict.the-variants as verdict
 use Rattle.checks.specs.Usable.{Usable}
 use Rattle.one_swap.specs.Swap.{xAt, yAt}
 use Rattle.swaps.specs.Outcome.{fitsIn, roomOf, tableAfter, RoomOutcome, room-fits, room-lacks}
-use Rattle.swaps.specs.Bytes.{no-room-only}
 use Rattle.swaps.specs.declared.Room.{Room}
 use Rattle.swaps.specs.declared.Room.the-variants as room
 use Rattle.slices.specs.Slices as over
@@ -37,17 +37,13 @@ use Rattle.slices.specs.Theorems.{run-starts}
 use Rattle.slices.specs.declared.Slice.{Slice}
 use Rattle.slices.specs.declared.Slice.the-variants.{Done, NoRoom, Paused, Refused}
 use Rattle.slices.specs.declared.Turn.{Turn}
-use Rattle.slices.specs.declared.Left.{Left}
+use Rattle.slices.specs.declared.Reached.{Reached}
 
 -- ---- the refusals
 
 pub sizes-right : {b : Bool} (t r o g : List ℕ) → b ≡ badRunSizes t r o g → b ≡ false → badSizes t r o ≡ false
 unfolding badRunSizes
-sizes-right t r o g e h = go (badSizes t r o) (sym e ∙ h)
-  where
-    go : (a : Bool) → (a || not (eqb (length g) (length o))) ≡ false → a ≡ false
-    go true q = q
-    go false q = refl
+sizes-right t r o g e h = or-neither (badSizes t r o) (not (eqb (length g) (length o))) (sym e ∙ h) .0
 
 pub ruleset refusing = (sizes-right, passed-all, chain)
 
@@ -106,12 +102,12 @@ module _ (t r : List ℕ) {order goal : Order} {n : ℕ} (h : Arranged order n) 
     module _ {a : Room} {t′ : List ℕ} (out : RoomOutcome t r x y a t′) where
       pub step-stuck : (m f : ℕ) → a ≡ room.NoRoom m f → Stepped t r order goal n (record { moved = false; order = order }) t′
       step-stuck m f e =
-          let lack : fitsIn t r x y ≡ false = room-lacks t r x y (fitsIn t r x y) m f refl (sym e ∙ out .answer) in
+          let lack : fitsIn t r x y ≡ false = room-lacks t r x y m f (sym e ∙ out .answer) .0 in
           record { moves = sym lack ∙ sym fits-now; to = λ g. true-false (sym g); stays = λ g. out .table ∙ ap (λ z. cond z (tableAfter t r x y) t) lack; arranged = h }
 
       pub step-made : {q : Order} → a ≡ room.Made → q ≡ exchangedOrder order k → Stepped t r order goal n (record { moved = true; order = q }) t′
       step-made {q} e w =
-          let fit : fitsIn t r x y ≡ true = room-fits t r x y (fitsIn t r x y) refl (sym e ∙ out .answer) in
+          let fit : fitsIn t r x y ≡ true = room-fits t r x y (sym e ∙ out .answer) in
           let new : t′ ≡ tableAfter t r x y = out .table ∙ ap (λ z. cond z (tableAfter t r x y) t) fit in
           record {
             moves = sym fit ∙ sym fits-now;
@@ -131,15 +127,14 @@ module _ (t r : List ℕ) {order goal : Order} {n : ℕ} (h : Arranged order n) 
       unfolding answerOf over.judge over.arrived over.next relay
       judge-stuck m f e =
           let is : roomOf t r (xAt (bytesOf order n) k) (yAt (bytesOf order n) k) ≡ room.NoRoom m f = rw (x-here, y-here) at (sym out ∙ e) in
-          let lack : fitsIn t r (xAt (bytesOf order n) k) (yAt (bytesOf order n) k) ≡ false = room-lacks t r _ _ (fitsIn t r (xAt (bytesOf order n) k) (yAt (bytesOf order n) k)) m f refl (sym is) in
-          let w = no-room-only t r (xAt (bytesOf order n) k) (yAt (bytesOf order n) k) m f is in
-          rw (sym same ∙ differ, ← planned, lack, ← counted, w .1, w .2)
+          let w = room-lacks t r (xAt (bytesOf order n) k) (yAt (bytesOf order n) k) m f (sym is) in
+          rw (sym same ∙ differ, ← planned, w .0, ← counted, w .1, w .2)
 
       pub judge-paused : a ≡ room.Made
           → Paused swaps l ≡ answerOf r swaps (left (bytesOf order n) (bytesOf goal n)) (stateOf t order n) (over.judge (relay r) bringUp (bytesOf goal n) (stateOf t order n))
       unfolding answerOf over.judge over.arrived over.next relay
       judge-paused e =
-          let fit : fitsIn t r x y ≡ true = room-fits t r x y (fitsIn t r x y) refl (sym e ∙ out) in
+          let fit : fitsIn t r x y ≡ true = room-fits t r x y (sym e ∙ out) in
           rw (sym same ∙ differ, ← x-there, ← y-there, fit, ← counted)
 
   pub judge-done : (swaps : ℕ) {l : ℕ} → l ≡ left (bytesOf order n) (bytesOf goal n) → b ≡ true
@@ -220,7 +215,7 @@ module _ (t r o g : List ℕ) (budget : ℕ) {v : Verdict} (judged : v ≡ stage
         start-bytes : bytesOf start (length o) ≡ o
         start-bytes = rw start-is (load-bytes o (starts .0 .sizes .few-variables))
 
-        pub run-ran : {end : Left} {t′ o′ : List ℕ} {a : Slice} → Driven t r start goal (length o) budget end t′ → o′ ≡ bytesOf (end .order) (length o)
+        pub run-ran : {end : Reached} {t′ o′ : List ℕ} {a : Slice} → Driven t r start goal (length o) budget end t′ → o′ ≡ bytesOf (end .order) (length o)
             → a ≡ answerOf r (end .swaps) (left (bytesOf (end .order) (length o)) (bytesOf goal (length o))) (stateOf t′ (end .order) (length o)) (over.judge (relay r) bringUp (bytesOf goal (length o)) (stateOf t′ (end .order) (length o)))
             → record { answer = a; table = t′; order = o′ } ≡ runOf t r o g budget
         run-ran {end} {t′} {o′} {a} d p q =

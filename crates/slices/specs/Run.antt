@@ -22,11 +22,11 @@ use Rattle.checks.specs.declared.Verdict.the-variants as verdict
 use Rattle.one_swap.specs.Swap.{xAt, yAt, needed, freeCount}
 use Rattle.swaps.specs.Outcome.{fitsIn, tableAfter}
 use Rattle.slices.specs.Slices as over
-use Rattle.slices.specs.Slices.{Relay, Verdict, done, noRoom, paused}
+use Rattle.slices.specs.Slices.{Relay, Judgement, done, noRoom, paused}
 use Rattle.slices.specs.declared.Slice.{Slice}
 use Rattle.slices.specs.declared.Slice.the-variants.{Done, NoRoom, Paused, Refused}
 use Rattle.slices.specs.declared.Turn.{Turn}
-use Rattle.slices.specs.declared.Left.{Left}
+use Rattle.slices.specs.declared.Reached.{Reached}
 
 -- ---- the state that a slice drives: the table and the order, over the same roots
 pub record State : Type 0 where
@@ -48,7 +48,7 @@ unfoldable pub runStages : List ℕ → List ℕ → List ℕ → List ℕ → L
 runStages t r o g = stageAt 1 0 (badRunSizes t r o g) ∷ orderStage 2 o ∷ orderStage 3 g ∷ tableStages t r o
 
 -- ---- the answer, judged on the state left
-unfoldable pub answerOf : List ℕ → ℕ → ℕ → State → Verdict → Slice
+unfoldable pub answerOf : List ℕ → ℕ → ℕ → State → Judgement → Slice
 answerOf r swaps left s done = Done swaps left
 answerOf r swaps left s (noRoom k) =
     NoRoom swaps left k
@@ -62,8 +62,8 @@ pub record Ran : Type 0 where
   pub table : List ℕ
   pub order : List ℕ
 
-unfoldable pub ranTo : List ℕ → over.Slice State → Ran
-ranTo r w = record { answer = answerOf r (w .swaps) (w .left) (w .state) (w .verdict); table = w .state .table; order = w .state .order }
+unfoldable pub ranTo : List ℕ → over.SliceOf State → Ran
+ranTo r w = record { answer = answerOf r (w .swaps) (w .left) (w .state) (w .judgement); table = w .state .table; order = w .state .order }
 
 abbrev pub runJudged : List ℕ → List ℕ → List ℕ → List ℕ → ℕ → judged.Verdict → Ran
 runJudged t r o g budget verdict.Clear = ranTo r (over.slice (relay r) bringUp g budget (record { table = t; order = o }))
@@ -95,7 +95,7 @@ pub record Stepped (t r : List ℕ) (order goal : Order) (n : ℕ) (s : Turn) (t
   pub stays : s .moved ≡ false → t′ ≡ t
   pub arranged : Arranged (s .order) n
 
-pub record Driven (t r : List ℕ) (order goal : Order) (n budget : ℕ) (l : Left) (t′ : List ℕ) : Type 0 where
+pub record Driven (t r : List ℕ) (order goal : Order) (n budget : ℕ) (l : Reached) (t′ : List ℕ) : Type 0 where
   pub sliced : over.Sliced (relay r) bringUp (bytesOf goal n) (stateOf t order n) budget (l .swaps) (stateOf t′ (l .order) n)
   pub arranged : Arranged (l .order) n
   pub small : l .swaps ≤ budget

@@ -8,7 +8,9 @@ use mathlib.Core.Path.{_≡_, refl, ap, sym, _∙_}
 use native.Mathlib.Nat.{add-zero, zero-add, suc-add}
 use native.Mathlib.Omega.{arith}
 use lib.ListN.{length}
+use borrow.Author.Tests.{not-true}
 use Rattle.lists.specs.Says.{Says, true-false, refutes}
+use Rattle.lists.specs.Truth.{and-left, and-right}
 use Rattle.orders.specs.Permutation.{Permutation}
 use Rattle.orders.specs.Exchange.{exchange}
 use Rattle.orders.specs.Inversions.{left, Adjacent, left-same, left-exchange}
@@ -27,26 +29,22 @@ pub record RelayLaws {State : Type 0} (R : Relay State) (n : ℕ) (Good : State 
   pub good-swapped : (s : State) (k : ℕ) → Good s → k + 1 < n → R .fits s k ≡ true → Good (R .swapped s k)
   pub order-swapped : (s : State) (k : ℕ) → Good s → k + 1 < n → R .fits s k ≡ true → R .order (R .swapped s k) ≡ exchange (R .order s) k
 
-pub data Verdict : Type 0 where
-  done : Verdict
+pub data Judgement : Type 0 where
+  done : Judgement
   -- with the level, the upper one of the pair
-  noRoom : ℕ → Verdict
-  paused : Verdict
+  noRoom : ℕ → Judgement
+  paused : Judgement
 
 -- the answer of a slice, and the state left
-pub record Slice (State : Type 0) : Type 0 where
+pub record SliceOf (State : Type 0) : Type 0 where
   pub swaps : ℕ
   pub state : State
-  pub verdict : Verdict
+  pub judgement : Judgement
   pub left : ℕ
 
 -- two answers as one: the swaps add up, all else is the later one's
-unfoldable pub join : {State : Type 0} → Slice State → Slice State → Slice State
-join a b = record { swaps = a .swaps + b .swaps; state = b .state; verdict = b .verdict; left = b .left }
-
-both : (a b : Bool) → (not a && b) ≡ true → (a ≡ false) × (b ≡ true)
-both true b e = true-false (sym e)
-both false b e = (refl, e)
+unfoldable pub join : {State : Type 0} → SliceOf State → SliceOf State → SliceOf State
+join a b = record { swaps = a .swaps + b .swaps; state = b .state; judgement = b .judgement; left = b .left }
 
 module _ {State : Type 0} (R : Relay State) (plan : Plan) (target : List ℕ) where
   -- the order is the target
@@ -75,18 +73,22 @@ module _ {State : Type 0} (R : Relay State) (plan : Plan) (target : List ℕ) wh
   made (suc b) s = let m = suc (made b (stepped s)) in cond (goes s) m 0
 
   -- done: order equals target; no room: the next planned swap doesn't fit; paused: otherwise
-  unfoldable pub judge : State → Verdict
+  unfoldable pub judge : State → Judgement
   judge s = cond (arrived s) done (cond (not (R .fits s (next s))) (noRoom (next s)) paused)
 
-  unfoldable pub slice : ℕ → State → Slice State
-  slice b s = let t = after b s in record { swaps = made b s; state = t; verdict = judge t; left = left (R .order t) target }
+  unfoldable pub slice : ℕ → State → SliceOf State
+  slice b s = let t = after b s in record { swaps = made b s; state = t; judgement = judge t; left = left (R .order t) target }
 
   -- a slice and more slices, each from the state that the one before left
-  unfoldable pub together : ℕ → List ℕ → State → Slice State
+  unfoldable pub together : ℕ → List ℕ → State → SliceOf State
   together b [] s = slice b s
   together b (c ∷ more) s = join (slice b s) (together c more (slice b s .state))
 
   -- ---- one turn
+
+  pub goes-on : (s : State) → goes s ≡ true → (arrived s ≡ false) × (R .fits s (next s) ≡ true)
+  unfolding goes
+  goes-on s e = (not-true (arrived s) (and-left (not (arrived s)) (R .fits s (next s)) e), and-right (not (arrived s)) (R .fits s (next s)) e)
 
   pub after-goes : (b : ℕ) (s : State) → goes s ≡ true → after (suc b) s ≡ after b (stepped s)
   unfolding after
@@ -136,7 +138,7 @@ module _ {State : Type 0} (R : Relay State) (plan : Plan) (target : List ℕ) wh
   unfolding slice join
   slice-add a b s =
       let (p, q) = adds a b s in
-      λ i. record { swaps = sym q i; state = sym p i; verdict = judge (sym p i); left = left (R .order (sym p i)) target }
+      λ i. record { swaps = sym q i; state = sym p i; judgement = judge (sym p i); left = left (R .order (sym p i)) target }
 
   -- and so are any number of them
   pub slices-add : (b : ℕ) (more : List ℕ) (s : State) → together b more s ≡ slice (b + foldr _+_ 0 more) s
@@ -174,6 +176,16 @@ module _ {State : Type 0} (R : Relay State) (plan : Plan) (target : List ℕ) wh
       by true f e = refl
       by false true e = cc
       by false false e = cc
+
+  -- without room it stands at the next planned swap, which doesn't fit
+  pub stuck : (s : State) (k : ℕ) → judge s ≡ noRoom k → (arrived s ≡ false) × (k ≡ next s) × (R .fits s k ≡ false)
+  unfolding judge
+  stuck s k = by (arrived s) (R .fits s (next s)) refl
+    where
+      by : (a f : Bool) → R .fits s (next s) ≡ f → cond a done (cond (not f) (noRoom (next s)) paused) ≡ noRoom k → (a ≡ false) × (k ≡ next s) × (R .fits s k ≡ false)
+      by true f q e = let z : _≡_ {A = ℕ} 0 1 = cc in absurd (omega arith)
+      by false true q e = let z : _≡_ {A = ℕ} 0 1 = cc in absurd (omega arith)
+      by false false q e = let p : k ≡ next s = cc in (refl, p, rw p q)
 
   -- each slice spends its whole budget or ends in done or no room
   pub spends : (b : ℕ) (s : State) → (made b s ≡ b) ⊎ Ended (after b s)
@@ -236,14 +248,16 @@ module _ {State : Type 0} (R : Relay State) (plan : Plan) (target : List ℕ) wh
     unfolding arrived
     arrived-says s g = same-says (R .order s) target (laws .long s g)
 
-    -- a planned swap is one of an adjacent inverted pair
+    -- where the order isn't the target, the next planned swap is one of an adjacent inverted pair
+    pub next-inversion : (s : State) → Good s → arrived s ≡ false → Adjacent (R .order s) target (next s)
+    unfolding next
+    next-inversion s g e = lawful .names-inversion (R .order s) target (laws .permutation s g) permuted (laws .long s g) (refutes (arrived-says s g) e)
+
     pub planned-inversion : (s : State) → Good s → goes s ≡ true → Adjacent (R .order s) target (next s)
-    unfolding goes next
-    planned-inversion s g e = lawful .names-inversion (R .order s) target (laws .permutation s g) permuted (laws .long s g) (refutes (arrived-says s g) (both (arrived s) (R .fits s (next s)) e .0))
+    planned-inversion s g e = next-inversion s g (goes-on s e .0)
 
     planned-fits : (s : State) → Good s → goes s ≡ true → (next s + 1 < length target) × (R .fits s (next s) ≡ true)
-    unfolding goes
-    planned-fits s g e = (rw (laws .long s g) at (planned-inversion s g e .within), both (arrived s) (R .fits s (next s)) e .1)
+    planned-fits s g e = (rw (laws .long s g) at (planned-inversion s g e .within), goes-on s e .1)
 
     good-stepped : (s : State) → Good s → goes s ≡ true → Good (stepped s)
     good-stepped s g e = let (i, f) = planned-fits s g e in laws .good-swapped s (next s) g i f

@@ -1,7 +1,7 @@
 -- What Run answers and leaves, over the bytes: one outcome for each input; when it refuses; the table can be used again and every root keeps its value;
 -- the fall in left is the number of swaps; slices add up.
 use Prim.Native.Nat.{ℕ, _+_, _≤_, _<_}
-use mathlib.Core.Bool.{Bool, true, false, not, _&&_}
+use mathlib.Core.Bool.{Bool, true, false, not}
 use mathlib.Core.List.{List, [], _∷_, foldr}
 use mathlib.Core.Logic.{_⊎_, inl, inr, ⊎-elim}
 use mathlib.Core.Path.{_≡_, refl, ap, sym, _∙_}
@@ -10,7 +10,6 @@ use native.Mathlib.Omega.{arith}
 use borrow.Author.Tests.{eq-eqb, eqb-true, not-false}
 use lib.Dec.{eqb}
 use lib.ListN.{length}
-use Rattle.lists.specs.Says.{true-false}
 use Rattle.lists.specs.Truth.{or-neither}
 use Rattle.diagrams.specs.Layout.{rootCount, rootAt}
 use Rattle.diagrams.specs.Lookup.{lookup}
@@ -29,10 +28,11 @@ use Rattle.checks.specs.declared.Verdict as judged
 use Rattle.checks.specs.declared.Verdict.the-variants as verdict
 use Rattle.one_swap.specs.Swap.{xAt, yAt}
 use Rattle.swaps.specs.Outcome.{fitsIn, swapOf}
-use Rattle.swaps.specs.Bytes.{swap-usable, swap-root-value, made-is}
+use Rattle.swaps.specs.Bytes.{Needed, Free, fits-then, unfit-then, swap-usable, swap-root-value, swap-made, swap-lacks}
+use Rattle.swaps.specs.declared.Swapping.the-variants as swapping
 use Rattle.swaps.specs.declared.Swapping.the-variants.{Made}
 use Rattle.slices.specs.Slices as over
-use Rattle.slices.specs.Slices.{Relay, RelayLaws, Verdict, done, noRoom, paused}
+use Rattle.slices.specs.Slices.{Relay, RelayLaws, Judgement, done, noRoom, paused}
 use Rattle.slices.specs.Run.{State, relay, badRunSizes, runStages, answerOf, Ran, ranTo, runJudged, runOf, RunOutcome}
 use Rattle.slices.specs.declared.Slice.{Slice}
 use Rattle.slices.specs.declared.Slice.the-variants.{Done, NoRoom, Paused, Refused}
@@ -62,15 +62,15 @@ pub run-refuses : (t r o g : List ℕ) (b k x : ℕ) → FailsFirst (runStages t
 unfolding runOf
 run-refuses t r o g b k x f = ap (runJudged t r o g b) (refused-if (runStages t r o g) k x f)
 
-answer-not-refused : {X : Type 0} (r : List ℕ) (m l : ℕ) (s : State) (v : Verdict) (k x : ℕ) → answerOf r m l s v ≡ Refused k x → X
+answer-not-refused : {X : Type 0} (r : List ℕ) (m l : ℕ) (s : State) (v : Judgement) (k x : ℕ) → answerOf r m l s v ≡ Refused k x → X
 unfolding answerOf
 answer-not-refused r m l s done k x e = let z : _≡_ {A = ℕ} 0 1 = cc in absurd (omega arith)
 answer-not-refused r m l s (noRoom j) k x e = let z : _≡_ {A = ℕ} 0 1 = cc in absurd (omega arith)
 answer-not-refused r m l s paused k x e = let z : _≡_ {A = ℕ} 0 1 = cc in absurd (omega arith)
 
-ran-not-refused : {X : Type 0} (r : List ℕ) (w : over.Slice State) (k x : ℕ) → ranTo r w .answer ≡ Refused k x → X
+ran-not-refused : {X : Type 0} (r : List ℕ) (w : over.SliceOf State) (k x : ℕ) → ranTo r w .answer ≡ Refused k x → X
 unfolding ranTo
-ran-not-refused r w k x e = answer-not-refused r (w .swaps) (w .left) (w .state) (w .verdict) k x e
+ran-not-refused r w k x e = answer-not-refused r (w .swaps) (w .left) (w .state) (w .judgement) k x e
 
 pub run-refuses-only : (t r o g : List ℕ) (b k x : ℕ) → runOf t r o g b .answer ≡ Refused k x → FailsFirst (runStages t r o g) k x
 unfolding runOf
@@ -79,12 +79,6 @@ run-refuses-only t r o g b k x e = refused-only (runStages t r o g) k x (go (sta
     go : (v : judged.Verdict) → runJudged t r o g b v .answer ≡ Refused k x → v ≡ verdict.Refused k x
     go verdict.Clear e = ran-not-refused r (over.slice (relay r) bringUp g b (record { table = t; order = o })) k x e
     go (verdict.Refused j y) e = let p : j ≡ k = cc in let q : y ≡ x = cc in rw (p, q)
-
--- ---- the swap that a run makes is Swap's
-pub swap-steps : (r : List ℕ) (s : State) (k : ℕ) → swapOf (s .table) r (s .order) k .answer ≡ Made
-    → relay r .swapped s k ≡ record { table = swapOf (s .table) r (s .order) k .table; order = swapOf (s .table) r (s .order) k .order }
-unfolding relay
-swap-steps r s k e = rw (made-is (s .table) r (s .order) k e)
 
 -- ---- the numbers of an answer
 
@@ -101,29 +95,40 @@ leftIn (NoRoom swaps left level needed free) = left
 leftIn (Paused swaps left) = left
 leftIn (Refused number place) = 0
 
-answer-swaps : (r : List ℕ) (m l : ℕ) (s : State) (v : Verdict) → swapsIn (answerOf r m l s v) ≡ m
+answer-swaps : (r : List ℕ) (m l : ℕ) (s : State) (v : Judgement) → swapsIn (answerOf r m l s v) ≡ m
 unfolding answerOf
 answer-swaps r m l s done = refl
 answer-swaps r m l s (noRoom k) = refl
 answer-swaps r m l s paused = refl
 
-answer-left : (r : List ℕ) (m l : ℕ) (s : State) (v : Verdict) → leftIn (answerOf r m l s v) ≡ l
+answer-left : (r : List ℕ) (m l : ℕ) (s : State) (v : Judgement) → leftIn (answerOf r m l s v) ≡ l
 unfolding answerOf
 answer-left r m l s done = refl
 answer-left r m l s (noRoom k) = refl
 answer-left r m l s paused = refl
 
-answer-done : (r : List ℕ) (m l : ℕ) (s : State) (v : Verdict) (i j : ℕ) → answerOf r m l s v ≡ Done i j → (v ≡ done) × (i ≡ m) × (j ≡ l)
+answer-done : (r : List ℕ) (m l : ℕ) (s : State) (v : Judgement) (i j : ℕ) → answerOf r m l s v ≡ Done i j → (v ≡ done) × (i ≡ m) × (j ≡ l)
 unfolding answerOf
 answer-done r m l s done i j e = (refl, (cc), (cc))
 answer-done r m l s (noRoom k) i j e = let z : _≡_ {A = ℕ} 0 1 = cc in absurd (omega arith)
 answer-done r m l s paused i j e = let z : _≡_ {A = ℕ} 0 1 = cc in absurd (omega arith)
 
-answer-paused : (r : List ℕ) (m l : ℕ) (s : State) (v : Verdict) (i j : ℕ) → answerOf r m l s v ≡ Paused i j → (v ≡ paused) × (i ≡ m) × (j ≡ l)
+answer-paused : (r : List ℕ) (m l : ℕ) (s : State) (v : Judgement) (i j : ℕ) → answerOf r m l s v ≡ Paused i j → (v ≡ paused) × (i ≡ m) × (j ≡ l)
 unfolding answerOf
 answer-paused r m l s done i j e = let z : _≡_ {A = ℕ} 0 1 = cc in absurd (omega arith)
 answer-paused r m l s (noRoom k) i j e = let z : _≡_ {A = ℕ} 0 1 = cc in absurd (omega arith)
 answer-paused r m l s paused i j e = (refl, (cc), (cc))
+
+answer-no-room : (r : List ℕ) (m l : ℕ) (s : State) (v : Judgement) (i j k n f : ℕ) → answerOf r m l s v ≡ NoRoom i j k n f
+    → (v ≡ noRoom k) × (n ≡ Needed (s .table) r (xAt (s .order) k) (yAt (s .order) k)) × (f ≡ Free (s .table) r (xAt (s .order) k) (yAt (s .order) k))
+unfolding answerOf
+answer-no-room r m l s done i j k n f e = let z : _≡_ {A = ℕ} 0 1 = cc in absurd (omega arith)
+answer-no-room r m l s paused i j k n f e = let z : _≡_ {A = ℕ} 0 1 = cc in absurd (omega arith)
+answer-no-room r m l s (noRoom q) i j k n f e =
+    let p : q ≡ k = cc in
+    let a : Needed (s .table) r (xAt (s .order) q) (yAt (s .order) q) ≡ n = cc in
+    let b : Free (s .table) r (xAt (s .order) q) (yAt (s .order) q) ≡ f = cc in
+    (ap noRoom p, sym a ∙ ap (λ z. Needed (s .table) r (xAt (s .order) z) (yAt (s .order) z)) p, sym b ∙ ap (λ z. Free (s .table) r (xAt (s .order) z) (yAt (s .order) z)) p)
 
 -- ---- two answers as one: the swaps add up, all else is the later one's
 
@@ -141,17 +146,17 @@ abbrev pub runsOf : List ℕ → List ℕ → List ℕ → List ℕ → ℕ → 
 runsOf t r o g b [] = runOf t r o g b
 runsOf t r o g b (c ∷ rest) = joined (runOf t r o g b) (runsOf (runOf t r o g b .table) r (runOf t r o g b .order) g c rest)
 
-answer-more : (r : List ℕ) (i m l : ℕ) (s : State) (v : Verdict) → more i (answerOf r m l s v) ≡ answerOf r (i + m) l s v
+answer-more : (r : List ℕ) (i m l : ℕ) (s : State) (v : Judgement) → more i (answerOf r m l s v) ≡ answerOf r (i + m) l s v
 unfolding answerOf
 answer-more r i m l s done = refl
 answer-more r i m l s (noRoom k) = refl
 answer-more r i m l s paused = refl
 
-ran-join : (r : List ℕ) (w v : over.Slice State) → joined (ranTo r w) (ranTo r v) ≡ ranTo r (over.join w v)
+ran-join : (r : List ℕ) (w v : over.SliceOf State) → joined (ranTo r w) (ranTo r v) ≡ ranTo r (over.join w v)
 unfolding ranTo over.join
 ran-join r w v =
-    let a : more (swapsIn (answerOf r (w .swaps) (w .left) (w .state) (w .verdict))) (answerOf r (v .swaps) (v .left) (v .state) (v .verdict)) ≡ answerOf r (w .swaps + v .swaps) (v .left) (v .state) (v .verdict) =
-    ap (λ m. more m (answerOf r (v .swaps) (v .left) (v .state) (v .verdict))) (answer-swaps r (w .swaps) (w .left) (w .state) (w .verdict)) ∙ answer-more r (w .swaps) (v .swaps) (v .left) (v .state) (v .verdict) in
+    let a : more (swapsIn (answerOf r (w .swaps) (w .left) (w .state) (w .judgement))) (answerOf r (v .swaps) (v .left) (v .state) (v .judgement)) ≡ answerOf r (w .swaps + v .swaps) (v .left) (v .state) (v .judgement) =
+    ap (λ m. more m (answerOf r (v .swaps) (v .left) (v .state) (v .judgement))) (answer-swaps r (w .swaps) (w .left) (w .state) (w .judgement)) ∙ answer-more r (w .swaps) (v .swaps) (v .left) (v .state) (v .judgement) in
     ap (λ z. record { answer = z; table = v .state .table; order = v .state .order }) a
 
 -- ---- a run of a table that the relay can use, towards a permutation of its variables
@@ -160,9 +165,15 @@ table-passes : (t r o : List ℕ) → AllPass (checkStages t r o) → AllPass (t
 unfolding checkStages
 table-passes t r o (also h (also p rest)) = rest
 
-both-true : (a b : Bool) → (a && b) ≡ true → b ≡ true
-both-true true b e = e
-both-true false b e = true-false (sym e)
+-- ---- the swap that a run makes is Swap's
+
+pub goes-made : (r g : List ℕ) → Permutation g → (s : State) → Good r (length g) s → over.goes (relay r) bringUp g s ≡ true
+    → swapOf (s .table) r (s .order) (over.next (relay r) bringUp g s) ≡ record { answer = Made; table = over.stepped (relay r) bringUp g s .table; order = over.stepped (relay r) bringUp g s .order }
+unfolding relay
+goes-made r g target s w e =
+    let k : ℕ = over.next (relay r) bringUp g s in
+    let level : k + 1 < length (s .order) = over.planned-inversion (relay r) bringUp g (Good r (length g)) (relay-laws r (length g)) bring-up-lawful target s w e .within in
+    swap-made (s .table) r (s .order) k (w .0) level (fits-then (s .table) r (xAt (s .order) k) (yAt (s .order) k) (over.goes-on (relay r) bringUp g s e .1))
 
 module _ (t r o g : List ℕ) (usable : Usable t r o) (target : Permutation g) (long : length g ≡ length o) where
   abbrev s₀ : State
@@ -225,10 +236,10 @@ module _ (t r o g : List ℕ) (usable : Usable t r o) (target : Permutation g) (
   Keeps s = Good r (length g) s × ((inputs : ℕ → Bool) (position : ℕ) → position < rootCount r → value (lookup (s .table)) inputs (length g) (rootAt r position) ≡ value (lookup t) inputs (length g) (rootAt r position))
 
   keeps-stepped : (s : State) → Keeps s → over.goes R bringUp g s ≡ true → Keeps (over.stepped R bringUp g s)
-  unfolding relay over.goes
+  unfolding relay
   keeps-stepped s w e =
       let k : ℕ = over.next R bringUp g s in
-      let fit : fitsIn (s .table) r (xAt (s .order) k) (yAt (s .order) k) ≡ true = both-true (not (over.arrived R bringUp g s)) (fitsIn (s .table) r (xAt (s .order) k) (yAt (s .order) k)) e in
+      let fit : fitsIn (s .table) r (xAt (s .order) k) (yAt (s .order) k) ≡ true = over.goes-on R bringUp g s e .1 in
       let level : k + 1 < length (s .order) = over.planned-inversion R bringUp g (Good r (length g)) laws bring-up-lawful target s (w .0) e .within in
       (laws .good-swapped s k (w .0) (rw (w .0 .1) at level) fit, λ inputs position b. (rw (w .0 .1) at (swap-root-value (s .table) r (s .order) k (w .0 .0) level fit inputs position b)) ∙ w .1 inputs position b)
 
@@ -272,6 +283,18 @@ module _ (t r o g : List ℕ) (usable : Usable t r o) (target : Permutation g) (
       let w = answer-paused r _ _ _ _ m l (sym (ap (λ (w : Ran). w .answer) (run-is b)) ∙ e) in
       w .1 ∙ over.paused-budget R bringUp g b s₀ (w .0)
 
+  -- a run without room names the plan's next swap, and Swap answers the same of the buffers left
+  pub run-lacks : (b m l k n f : ℕ) → runOf t r o g b .answer ≡ NoRoom m l k n f
+      → (k ≡ bringUp (runOf t r o g b .order) g) × (swapOf (runOf t r o g b .table) r (runOf t r o g b .order) k ≡ record { answer = swapping.NoRoom k n f; table = runOf t r o g b .table; order = runOf t r o g b .order })
+  unfolding ranTo over.slice over.next relay
+  run-lacks b m l k n f e =
+      let s : State = over.after R bringUp g b s₀ in
+      let w = answer-no-room r _ _ _ _ m l k n f (sym (ap (λ (w : Ran). w .answer) (run-is b)) ∙ e) in
+      let u = over.stuck R bringUp g s k (w .0) in
+      let level : k + 1 < length (s .order) = rw (u .1) (over.next-inversion R bringUp g (Good r (length g)) laws bring-up-lawful target s (good-left b) (u .0) .within) in
+      let lack : Free (s .table) r (xAt (s .order) k) (yAt (s .order) k) < Needed (s .table) r (xAt (s .order) k) (yAt (s .order) k) = unfit-then (s .table) r (xAt (s .order) k) (yAt (s .order) k) (u .2) in
+      (rw (run-order b) (u .1), rw (run-table b, run-order b, w .1, w .2) (swap-lacks (s .table) r (s .order) k (good-left b .0) level lack))
+
   -- each run spends its whole budget or ends in done or no room
   pub run-spends : (b : ℕ) → (swapsIn (runOf t r o g b .answer) ≡ b) ⊎ ((m l : ℕ) → runOf t r o g b .answer ≡ Paused m l → ⊥)
   unfolding ranTo over.slice
@@ -312,7 +335,7 @@ module _ (t r o g : List ℕ) where
 -- ---- slices add up
 
 module _ (t r o g : List ℕ) (usable : Usable t r o) (target : Permutation g) (long : length g ≡ length o) where
-  abbrev S : ℕ → State → over.Slice State
+  abbrev S : ℕ → State → over.SliceOf State
   S = over.slice (relay r) bringUp g
 
   abbrev s₁ : State

@@ -39,8 +39,8 @@ pub struct Turn {
     pub order: Order,
 }
 
-// What a slice leaves: the order, and the swaps made of its budget.
-pub struct Left {
+// What a slice reaches: the order, and the swaps made of its budget.
+pub struct Reached {
     pub order: Order,
     pub swaps: usize,
 }
@@ -107,7 +107,14 @@ fn step(table: &mut [u8], roots: &[u8], order: Order, goal: Order, n: usize) -> 
 }
 
 // Planned swaps until none is to be made or the budget is spent.
-fn drive(table: &mut [u8], roots: &[u8], start: Order, goal: Order, n: usize, budget: usize) -> Left
+fn drive(
+    table: &mut [u8],
+    roots: &[u8],
+    start: Order,
+    goal: Order,
+    n: usize,
+    budget: usize,
+) -> Reached
     requires { ⌜ Sized (now table) (now roots) × (Arranged start n × Arranged goal n) ⌝ }
     ensures { λ l. ⌜ Driven (now (table .entry)) (now (roots .entry)) start goal n budget l (now (table .exit)) ⌝ }
 {
@@ -116,12 +123,12 @@ fn drive(table: &mut [u8], roots: &[u8], start: Order, goal: Order, n: usize, bu
     while swaps < budget {
         let s = step(table, roots, order, goal, n);
         if !s.moved {
-            return Left { order, swaps };
+            return Reached { order, swaps };
         }
         order = s.order;
         swaps += 1;
     }
-    Left { order, swaps }
+    Reached { order, swaps }
 }
 
 // ---- the answer, judged on the state left
@@ -159,9 +166,9 @@ pub fn run(table: &mut [u8], roots: &[u8], order: &mut [u8], target: &[u8], budg
     let n = order.len();
     let goal = Order::load(target);
     let start = Order::load(order);
-    let left = drive(table, roots, start, goal, n, budget as usize);
-    let end = left.order;
-    let swaps = left.swaps;
+    let reached = drive(table, roots, start, goal, n, budget as usize);
+    let end = reached.order;
+    let swaps = reached.swaps;
     end.store(order);
     judge(table, roots, end, goal, n, swaps)
 }

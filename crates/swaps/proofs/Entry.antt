@@ -2,11 +2,11 @@
 use Prim.Native.Nat.{ℕ, _+_, _-_, _*_, _%_, _≤_, _<_}
 use mathlib.Core.Bool.{true, false, cond}
 use mathlib.Core.List.{List, _++_, append-nil}
-use mathlib.Core.Path.{_≡_, refl, ap, sym, _∙_}
+use mathlib.Core.Path.{_≡_, refl, ap, ap₂, sym, _∙_}
 use native.Mathlib.Nat.{le-refl}
 use native.Mathlib.Omega.{arith}
 use borrow.Author.Tests.{le-leb, lt-leb}
-use lib.ListN.{length, getD, set, take, drop, drop-of-length-le}
+use lib.ListN.{length, getD, take, drop, drop-of-length-le}
 use lib.Seq.{take-at}
 use Rattle.lists.specs.Copy.{copied, copied-first}
 use Rattle.lists.specs.Fold.{Steps, steps-end}
@@ -17,11 +17,16 @@ use Rattle.diagrams.specs.Node.{Node, at}
 use Rattle.diagrams.specs.Decode.{decode, encode}
 use Rattle.diagrams.specs.Lookup.{rootsOf}
 use Rattle.diagrams.specs.Store.{length-encode}
+use Rattle.orders.specs.Permutation.{ceiling, Permutation, permutation-if}
 use Rattle.orders.specs.Exchange.{exchange}
+use Rattle.orders.specs.Order.{loadOrder, exchangedOrder, Inverse}
+use Rattle.orders.specs.Load.{load-variables}
+use Rattle.orders.specs.Arranged.{bytesOf, Arranged, load-bytes, load-arranged, arranged-inverse, exchanged-bytes}
+use Rattle.orders.specs.declared.Order.{Order}
 use Rattle.flaws.specs.Meaning.{Sizes, Sized, sized, sizes-if}
 use Rattle.checks.specs.Stages.{judge, clear-only, row-refuses, row-passes, place-refuses, place-passes}
 use Rattle.checks.specs.Check.{checkStages}
-use Rattle.checks.specs.Usable.{passes-all}
+use Rattle.checks.specs.Usable.{Passes, passes-all}
 use Rattle.checks.specs.declared.Verdict.{Verdict}
 use Rattle.checks.specs.declared.Verdict.the-variants as verdict
 use Rattle.one_swap.specs.Swap.{xAt, yAt, needed, freeCount, after, swapped}
@@ -90,12 +95,12 @@ module _ (t r : List ℕ) (x y : ℕ) where
   pub room-none : {a : Room} {image : List ℕ} (n f : ℕ) → Prepared t r x y a image → a ≡ room.NoRoom n f → RoomOutcome t r x y (room.NoRoom n f) t
   room-none n f p e =
       let q : room.NoRoom n f ≡ roomOf t r x y = sym e ∙ p .answer in
-      record { answer = q; table = rw (room-lacks t r x y (fitsIn t r x y) n f refl q) }
+      record { answer = q; table = rw (room-lacks t r x y n f q .0) }
 
   pub room-made : {a : Room} {image t′ : List ℕ} → Prepared t r x y a image → a ≡ room.Made → t′ ≡ take (length t) image → RoomOutcome t r x y room.Made t′
   room-made p e w =
       let q : room.Made ≡ roomOf t r x y = sym e ∙ p .answer in
-      let f : fitsIn t r x y ≡ true = room-fits t r x y (fitsIn t r x y) refl q in
+      let f : fitsIn t r x y ≡ true = room-fits t r x y q in
       record { answer = q; table = rw f (w ∙ p .table f) }
 
 -- ---- the entry
@@ -110,8 +115,11 @@ module _ (t r o : List ℕ) (k : ℕ) {v : Verdict} (judged : v ≡ judge (check
   swap-refused n x h = swap-by (row-refuses (checkStages t r o) _ n x judged h)
 
   module _ (clear : v ≡ verdict.Clear) where
+    passed : Passes t r o
+    passed = passes-all t r o (clear-only (checkStages t r o) (sym judged ∙ clear))
+
     sizes : Sizes t r o
-    sizes = sizes-if t r o (passes-all t r o (clear-only (checkStages t r o) (sym judged ∙ clear)) .c1)
+    sizes = sizes-if t r o (passed .c1)
 
     pub some-level : 1 ≤ length o
     some-level = sizes .some-variables
@@ -119,26 +127,52 @@ module _ (t r o : List ℕ) (k : ℕ) {v : Verdict} (judged : v ≡ judge (check
     pub table-fits : Sized t r
     table-fits = sized sizes
 
+    pub order-loads : (length o ≤ ceiling) × Permutation o
+    order-loads = (sizes .few-variables, permutation-if o (passed .c2))
+
     pub swap-nowhere : length o - 1 ≤ k → record { answer = Refused 12 k; table = t; order = o } ≡ swapOf t r o k
     unfolding swapStages
     swap-nowhere h = swap-by (row-passes (checkStages t r o) _ judged clear (place-refuses 12 k (noLevel o k) true verdict.Clear (sym (le-leb (length o - 1) k h)) refl))
 
-    module _ (h : k < length o - 1) {x y : ℕ} (is-x : x ≡ getD o k 0) (is-y : y ≡ getD o (k + 1) 0) {a : Room} {t′ : List ℕ} (out : RoomOutcome t r x y a t′) where
+    module _ (h : k < length o - 1) {q : Order} (loaded : q ≡ loadOrder o) where
       clear-all : verdict.Clear ≡ judge (swapStages t r o k)
       unfolding swapStages
       clear-all = row-passes (checkStages t r o) _ judged clear (place-passes 12 k (noLevel o k) false verdict.Clear verdict.Clear (sym (lt-leb (length o - 1) k h)) refl refl)
 
-      answered : a ≡ roomOf t r (xAt o k) (yAt o k)
-      answered = rw (← is-x, ← is-y) (out .answer)
+      arranged : Arranged q (length o)
+      arranged = rw loaded (load-arranged o (order-loads .1) (order-loads .0))
 
-      pub swap-none : (n f : ℕ) → a ≡ room.NoRoom n f → record { answer = NoRoom k n f; table = t′; order = o } ≡ swapOf t r o k
-      swap-none n f e =
-          let same : t′ ≡ t = out .table ∙ ap (λ b. cond b (tableAfter t r x y) t) (room-lacks t r x y (fitsIn t r x y) n f refl (sym e ∙ out .answer)) in
-          ap (λ z. record { answer = NoRoom k n f; table = z; order = o }) same ∙ ap (swapAfter t r o k) (sym e ∙ answered) ∙ swap-by clear-all
+      pub level-low : k + 1 < ceiling
+      level-low = omega (arith, order-loads .0)
 
-      pub swap-made : {u l : ℕ} → u ≡ getD o k 0 → l ≡ getD o (k + 1) 0 → a ≡ room.Made → record { answer = Made; table = t′; order = set (set o k l) (k + 1) u } ≡ swapOf t r o k
-      unfolding exchange
-      swap-made {u} {l} p q e =
-          let new : t′ ≡ tableAfter t r x y = out .table ∙ ap (λ b. cond b (tableAfter t r x y) t) (room-fits t r x y (fitsIn t r x y) refl (sym e ∙ out .answer)) in
-          ap (λ z. record { answer = Made; table = z; order = set (set o k l) (k + 1) u }) new
-          ∙ rw (is-x, is-y, p, q) (ap (swapAfter t r o k) (sym e ∙ answered) ∙ swap-by clear-all)
+      pub level-inverse : (k + 1 < ceiling) × Inverse q
+      level-inverse = (level-low, arranged-inverse arranged)
+
+      variable-is : (i : ℕ) → i < length o → getD (q .variables) i 0 ≡ getD o i 0
+      variable-is i b = ap (λ (z : Order). getD (z .variables) i 0) loaded ∙ load-variables o i (order-loads .0) b
+
+      exchanged-is : bytesOf (exchangedOrder q k) (length o) ≡ exchange o k
+      exchanged-is = exchanged-bytes arranged k (omega arith) ∙ ap (λ s. exchange s k) (ap (λ (z : Order). bytesOf z (length o)) loaded ∙ load-bytes o (order-loads .0))
+
+      module _ {x y : ℕ} (is-x : x ≡ getD (q .variables) k 0) (is-y : y ≡ getD (q .variables) (k + 1) 0) {a : Room} {t′ : List ℕ} (out : RoomOutcome t r x y a t′) where
+        x-is : x ≡ xAt o k
+        x-is = is-x ∙ variable-is k (omega arith)
+
+        y-is : y ≡ yAt o k
+        y-is = is-y ∙ variable-is (k + 1) (omega arith)
+
+        answered : a ≡ roomOf t r (xAt o k) (yAt o k)
+        answered = rw (← x-is, ← y-is) (out .answer)
+
+        pub swap-none : (n f : ℕ) → a ≡ room.NoRoom n f → record { answer = NoRoom k n f; table = t′; order = o } ≡ swapOf t r o k
+        swap-none n f e =
+            let same : t′ ≡ t = out .table ∙ ap (λ b. cond b (tableAfter t r x y) t) (room-lacks t r x y n f (sym e ∙ out .answer) .0) in
+            ap (λ z. record { answer = NoRoom k n f; table = z; order = o }) same ∙ ap (swapAfter t r o k) (sym e ∙ answered) ∙ swap-by clear-all
+
+        pub swap-made : {o′ : List ℕ} {q′ : Order} → q′ ≡ exchangedOrder q k → o′ ≡ bytesOf q′ (length o) → a ≡ room.Made → record { answer = Made; table = t′; order = o′ } ≡ swapOf t r o k
+        swap-made {o′} p w e =
+            let new : t′ ≡ tableAfter t r x y = out .table ∙ ap (λ b. cond b (tableAfter t r x y) t) (room-fits t r x y (sym e ∙ out .answer)) in
+            let moved : o′ ≡ exchange o k = w ∙ ap (λ (z : Order). bytesOf z (length o)) p ∙ exchanged-is in
+            ap (λ z. record { answer = Made; table = z; order = o′ }) (new ∙ ap₂ (tableAfter t r) x-is y-is)
+            ∙ ap (λ z. record { answer = Made; table = tableAfter t r (xAt o k) (yAt o k); order = z }) moved
+            ∙ ap (swapAfter t r o k) (sym e ∙ answered) ∙ swap-by clear-all

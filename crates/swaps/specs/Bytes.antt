@@ -16,13 +16,13 @@ use Rattle.diagrams.specs.Layout.{recordSize, mostRecords, records, rootCount, 
 use Rattle.diagrams.specs.Node.{Node, free, node, Constant, at, ref, look}
 use Rattle.diagrams.specs.Decode.{nodeAt, decode, eight, WellLaid, encode-decode}
 use Rattle.diagrams.specs.Store.{length-encode}
-use Rattle.diagrams.specs.Encode.{Small, AllSmall, decode-encode, encode-laid, encode-bytes, take-record}
+use Rattle.diagrams.specs.Encode.{Small, AllSmall, decode-encode, encode-laid, take-record}
 use Rattle.diagrams.specs.Lookup.{rootsOf, lookup, length-roots, root-is}
 use Rattle.diagrams.specs.Bryant.{Vertex}
 use Rattle.diagrams.specs.Levels.{free-node}
 use Rattle.diagrams.specs.Diagram.{Diagram}
 use Rattle.diagrams.specs.Reduced.{diagram-of, look-plain}
-use Rattle.diagrams.specs.Value.{value}
+use Rattle.diagrams.specs.Value.{value, Value}
 use Rattle.checks.specs.Stages.{AllPass, also, both-rows, FailsFirst, stageAt, judge, passed-only, clear-if, clear-only, refused-if, refused-only, row-passes, place-passes}
 use Rattle.checks.specs.Check.{checkStages, used, checkOf}
 use Rattle.checks.specs.Usable.{Usable, usable-if, usable-then, all-pass, passes-all}
@@ -33,8 +33,8 @@ use Rattle.checks.specs.declared.Answer.the-variants.{Accepted}
 use Rattle.one_swap.specs.Record.{isUsedNode, isFreeNode, Behind, behind}
 use Rattle.one_swap.specs.Swap.{xAt, yAt, crosses, dies, needed, freeCount, fits, filled, dying, usedCount, swapped}
 use Rattle.one_swap.specs.Stored.{length-swapped}
-use Rattle.one_swap.specs.Theorem.{Cofactors, swap-diagram, swap-bryant, swap-root, swap-else, swap-count, cofactors}
-use Rattle.swaps.specs.Outcome.{fitsIn, roomOf, tableAfter, noLevel, swapStages, Swapped, swapAfter, swapJudged, swapOf, SwapOutcome}
+use Rattle.one_swap.specs.Theorem.{Cofactors, swap-diagram, swap-bryant, swap-root, swap-reads, swap-else, swap-count, cofactors}
+use Rattle.swaps.specs.Outcome.{fitsIn, roomOf, room-fits, room-lacks, tableAfter, noLevel, swapStages, Swapped, swapAfter, swapJudged, swapOf, SwapOutcome}
 use Rattle.swaps.specs.declared.Room.{Room}
 use Rattle.swaps.specs.declared.Room.the-variants as room
 use Rattle.swaps.specs.declared.Swapping.{Swapping}
@@ -131,10 +131,6 @@ module _ (t r o : List ℕ) (k : ℕ) (usable : Usable t r o) (level : k + 1 < l
   unfolding tableAfter
   decode-after = decode-encode S swapped-small
 
-  pub bytes-after : (j : ℕ) → getD t′ j 0 < 256
-  unfolding tableAfter
-  bytes-after j = encode-bytes S swapped-small j
-
   laid-after : WellLaid t′
   unfolding tableAfter
   laid-after = encode-laid S swapped-small
@@ -169,6 +165,13 @@ module _ (t r o : List ℕ) (k : ℕ) (usable : Usable t r o) (level : k + 1 < l
       swap-root (decode t) (rootsOf r) o k (usable .order) level fit-decoded before inputs position (rw (length-roots r) b) in
       rw decode-after (rw (root-is r position b) at e)
 
+  -- the same, of what a root reads as
+  pub swap-root-reads : (inputs : ℕ → Bool) (position : ℕ) → position < rootCount r → (v : Bool) → Value (lookup t) inputs (rootAt r position) v → Value (lookup t′) inputs (rootAt r position) v
+  swap-root-reads inputs position b =
+      let e : (v : Bool) → Value (lookup t) inputs (getD (rootsOf r) position 0) v → Value (look (at S)) inputs (getD (rootsOf r) position 0) v =
+      swap-reads (decode t) (rootsOf r) o k (usable .order) level fit-decoded before inputs position (rw (length-roots r) b) in
+      rw decode-after (rw (root-is r position b) at e)
+
   -- the function of a crossing record, and those of its new children
   pub swap-cofactors : (q : ℕ) → crosses (lookup t) x y q ≡ true → Cofactors (lookup t) (lookup t′) (length o) x y q
   swap-cofactors q c = rw decode-after (cofactors (decode t) (rootsOf r) o k (usable .order) level fit-decoded before q c)
@@ -195,17 +198,17 @@ module _ (t r o : List ℕ) (k : ℕ) (usable : Usable t r o) (level : k + 1 < l
 -- ---- room
 
 module _ (t r : List ℕ) (x y : ℕ) where
-  abbrev Needed : ℕ
+  abbrev pub Needed : ℕ
   Needed = needed (at (decode t)) (records t) x y (rootsOf r)
 
-  abbrev Free : ℕ
+  abbrev pub Free : ℕ
   Free = freeCount (at (decode t)) (records t) x y (rootsOf r)
 
   fits-if : Needed ≤ Free → fitsIn t r x y ≡ true
   unfolding fits
   fits-if h = le-leb Needed Free h
 
-  fits-then : fitsIn t r x y ≡ true → Needed ≤ Free
+  pub fits-then : fitsIn t r x y ≡ true → Needed ≤ Free
   unfolding fits
   fits-then e = leb-true Needed Free e
 
@@ -213,7 +216,7 @@ module _ (t r : List ℕ) (x y : ℕ) where
   unfolding fits
   unfit h = denies (says-leb Needed Free) (λ e. omega arith)
 
-  unfit-then : fitsIn t r x y ≡ false → Free < Needed
+  pub unfit-then : fitsIn t r x y ≡ false → Free < Needed
   unfolding fits
   unfit-then e = leb-false Needed Free e
 
@@ -226,20 +229,10 @@ module _ (t r : List ℕ) (x y : ℕ) where
   no-room h = rw (unfit h)
 
   pub room-made-only : roomOf t r x y ≡ room.Made → Needed ≤ Free
-  unfolding roomOf
-  room-made-only e = go (fitsIn t r x y) refl e
-    where
-      go : (b : Bool) → fitsIn t r x y ≡ b → cond b room.Made (room.NoRoom Needed Free) ≡ room.Made → Needed ≤ Free
-      go true f e = fits-then f
-      go false f e = let z : _≡_ {A = ℕ} 0 1 = cc in absurd (omega arith)
+  room-made-only e = fits-then (room-fits t r x y (sym e))
 
   pub no-room-only : (n f : ℕ) → roomOf t r x y ≡ room.NoRoom n f → (Free < Needed) × (n ≡ Needed) × (f ≡ Free)
-  unfolding roomOf
-  no-room-only n f e = go (fitsIn t r x y) refl e
-    where
-      go : (b : Bool) → fitsIn t r x y ≡ b → cond b room.Made (room.NoRoom Needed Free) ≡ room.NoRoom n f → (Free < Needed) × (n ≡ Needed) × (f ≡ Free)
-      go true g e = let z : _≡_ {A = ℕ} 0 1 = cc in absurd (omega arith)
-      go false g e = (unfit-then g, (cc), (cc))
+  no-room-only n f e = let w = room-lacks t r x y n f (sym e) in (unfit-then (w .0), w .1, w .2)
 
   pub made-exactly : (Needed ≤ Free → roomOf t r x y ≡ room.Made) × (roomOf t r x y ≡ room.Made → Needed ≤ Free)
   made-exactly = (room-made, room-made-only)

@@ -2,7 +2,7 @@
 use Prim.Native.Nat.{ℕ, _-_}
 use mathlib.Core.Bool.{Bool, true, false, cond}
 use mathlib.Core.List.{List, [], _∷_, _++_}
-use mathlib.Core.Path.{_≡_, refl, ap, sym, _∙_}
+use mathlib.Core.Path.{_≡_, refl}
 use native.Mathlib.Omega.{arith}
 use lib.Dec.{leb}
 use lib.ListN.{length, take}
@@ -84,16 +84,24 @@ numbers (Refused number place) = number ∷ place ∷ []
 
 -- ---- what an answer says of the room
 
-room-clash : {X : Type 0} (n f : ℕ) → room.Made ≡ room.NoRoom n f → X
-room-clash n f e = let z : _≡_ {A = ℕ} 0 1 = cc in absurd (omega arith)
-
 module _ (t r : List ℕ) (x y : ℕ) where
-  pub room-fits : (b : Bool) → fitsIn t r x y ≡ b → room.Made ≡ roomOf t r x y → b ≡ true
-  unfolding roomOf
-  room-fits true q e = refl
-  room-fits false q e = room-clash _ _ (e ∙ ap (λ b. cond b room.Made (room.NoRoom (needed (at (decode t)) (records t) x y (rootsOf r)) (freeCount (at (decode t)) (records t) x y (rootsOf r)))) q)
+  abbrev lacking : Room
+  lacking = room.NoRoom (needed (at (decode t)) (records t) x y (rootsOf r)) (freeCount (at (decode t)) (records t) x y (rootsOf r))
 
-  pub room-lacks : (b : Bool) (n f : ℕ) → fitsIn t r x y ≡ b → room.NoRoom n f ≡ roomOf t r x y → b ≡ false
+  pub room-fits : room.Made ≡ roomOf t r x y → fitsIn t r x y ≡ true
   unfolding roomOf
-  room-lacks true n f q e = room-clash n f (sym (e ∙ ap (λ b. cond b room.Made (room.NoRoom (needed (at (decode t)) (records t) x y (rootsOf r)) (freeCount (at (decode t)) (records t) x y (rootsOf r)))) q))
-  room-lacks false n f q e = refl
+  room-fits e = go (fitsIn t r x y) e
+    where
+      go : (b : Bool) → room.Made ≡ cond b room.Made lacking → b ≡ true
+      go true q = refl
+      go false q = let z : _≡_ {A = ℕ} 0 1 = cc in absurd (omega arith)
+
+  pub room-lacks : (n f : ℕ) → room.NoRoom n f ≡ roomOf t r x y
+      → (fitsIn t r x y ≡ false) × (n ≡ needed (at (decode t)) (records t) x y (rootsOf r)) × (f ≡ freeCount (at (decode t)) (records t) x y (rootsOf r))
+  unfolding roomOf
+  room-lacks n f e = go (fitsIn t r x y) e
+    where
+      go : (b : Bool) → room.NoRoom n f ≡ cond b room.Made lacking
+          → (b ≡ false) × (n ≡ needed (at (decode t)) (records t) x y (rootsOf r)) × (f ≡ freeCount (at (decode t)) (records t) x y (rootsOf r))
+      go true q = let z : _≡_ {A = ℕ} 0 1 = cc in absurd (omega arith)
+      go false q = (refl, (cc), (cc))

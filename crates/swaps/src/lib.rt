@@ -14,6 +14,7 @@ use diagrams::MOST_RECORDS;
 use diagrams::RECORD_SIZE;
 use diagrams::Variable;
 use kinds::collect;
+use orders::Order;
 use reckoning::names;
 use reckoning::news;
 use rewrite::Numbers;
@@ -142,10 +143,9 @@ pub fn swap(table: &mut [u8], roots: &[u8], order: &mut [u8], level: usize) -> S
             place: level,
         };
     }
-    let upper = order[level];
-    let lower = order[level + 1];
-    let x = Variable(diagrams::wide(upper));
-    let y = Variable(diagrams::wide(lower));
+    let before = Order::load(order);
+    let x = before.variable_at(level);
+    let y = before.variable_at(level + 1);
     match swap_table(table, roots, x, y) {
         Room::NoRoom { needed, free } => Swapping::NoRoom {
             level,
@@ -153,8 +153,7 @@ pub fn swap(table: &mut [u8], roots: &[u8], order: &mut [u8], level: usize) -> S
             free,
         },
         Room::Made => {
-            order[level] = lower;
-            order[level + 1] = upper;
+            before.exchanged(level).store(order);
             Swapping::Made
         }
     }

@@ -97,8 +97,8 @@ fn first_words(text: &str) -> String {
 }
 
 /// Runs the program in the folder with these files. It must end well, print
-/// this text to its standard output and nothing else, and leave the folder as
-/// it was.
+/// this text to its standard output and nothing else anywhere, and leave the
+/// folder as it was.
 fn hold_program_to(
     program: &Path,
     folder: &Folder,
@@ -110,11 +110,13 @@ fn hold_program_to(
         .current_dir(&folder.path)
         .output()
         .map_err(|error| format!("{} does not run: {error}", program.display()))?;
-    if output.status.code() != Some(0) || output.stdout != text.as_bytes() {
+    let told = !output.stderr.is_empty();
+    if told || output.status.code() != Some(0) || output.stdout != text.as_bytes() {
         return Err(format!(
-            "{}program, {}:\n{}\nexpected, exit status 0:\n{text}",
+            "{}program, {}:\n{}{}\nexpected, exit status 0:\n{text}",
             hex(files),
             output.status,
+            String::from_utf8_lossy(&output.stderr),
             String::from_utf8_lossy(&output.stdout)
         ));
     }

@@ -1,25 +1,29 @@
 use Prim.Native.Nat.{_-_}
-use mathlib.Core.Path.{refl}
+use mathlib.Core.Path.{_≡_, refl}
 use native.Mathlib.Omega.{arith}
+use lib.ListN.{length}
+use Rattle.lists.specs.Copy.{copiedTo}
+use Rattle.lists.specs.Fold.{Steps, steps-go, steps}
 use borrow.Author.Needs.{needs}
-use Rattle.listing.proofs.Laws.{Copied, copied-begin, copied-go, copied-end}
+use Rattle.listing.proofs.Laws.{word-put}
 use Rattle.listing.proofs.put.Statement.{statement}
 use Rattle.listing.proofs.put.Tie as tie
 
 abbrev Inv-loop : tie.InvT-loop
-Inv-loop out₀ at word n i₀ out i = Copied word out₀ at n i out
+Inv-loop out₀ at word n i₀ out i = Steps (copiedTo at word) out₀ n i out × (length out ≡ length out₀)
 
 abbrev μ-loop : tie.MeasureT-loop
 μ-loop out₀ at word n i₀ out i = n - i
 
 loop-holds : tie.Need-loop-holds Inv-loop μ-loop
-loop-holds c = copied-begin
+loop-holds c = search steps
 
 loop-again : tie.Need-loop-again Inv-loop μ-loop
-loop-again c = copied-go (c .before .before .loop .inv) (omega arith) refl (omega (arith, c .before .before .before .pre .fits))
+unfolding copiedTo
+loop-again c = (steps-go (c .before .before .loop .inv .0) (omega arith) refl, search steps)
 
 returns : tie.Need-returns Inv-loop μ-loop
-returns c = copied-end (c .before .loop .inv) (omega arith) refl
+returns c = word-put _ _ (c .before .loop .inv .0) (omega arith) refl (omega (arith, c .before .before .pre .fits))
 
 pub put-spec : {M : Type 1} → statement M
 put-spec =
