@@ -153,7 +153,8 @@ pub fn swap(table: &mut [u8], roots: &[u8], order: &mut [u8], level: usize) -> S
             free,
         },
         Room::Made => {
-            before.exchanged(level).store(order);
+            let after = before.exchanged(level);
+            after.store(order);
             Swapping::Made
         }
     }
