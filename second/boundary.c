@@ -164,9 +164,11 @@ static int read_down(const char *name, uint8_t last_input, uint32_t value)
     uint8_t order[LEVELS];
     uint8_t inputs[LEVELS];
     const uint8_t root[2] = {2, 0};
-    uint32_t list[2];
+    uint32_t list[LIST];
     size_t written;
+    size_t entry;
     uint8_t level;
+    int same;
 
     for (level = 0; level < LEVELS; level++) {
         table[8 * level] = level;
@@ -175,9 +177,16 @@ static int read_down(const char *name, uint8_t last_input, uint32_t value)
         inputs[level] = 1;
     }
     inputs[LEVELS - 1] = last_input;
+    for (entry = 0; entry < LIST; entry++) {
+        list[entry] = UNTOUCHED;
+    }
     written = relay_read(table, sizeof table, root, sizeof root, order,
-                         sizeof order, 0, inputs, sizeof inputs, list, 2);
-    if (written == 2 && list[0] == 0 && list[1] == value) {
+                         sizeof order, 0, inputs, sizeof inputs, list, LIST);
+    same = written == 2 && list[0] == 0 && list[1] == value;
+    for (entry = 2; entry < LIST; entry++) {
+        same = same && list[entry] == UNTOUCHED;
+    }
+    if (same) {
         return 0;
     }
     printf("boundary: %s: %zu written, %" PRIu32 " %" PRIu32 "\n", name,

@@ -295,6 +295,13 @@ fn case_j() -> Vec<Case> {
     ]
 }
 
+/// A full table of which record 4,095 alone is used, named by so many roots.
+fn last_used(roots: usize) -> Input {
+    let mut records = vec![FREE; 4_096];
+    records[4_095] = used(0, 0, 1);
+    input(&records, &vec![4_097; roots], &[0])
+}
+
 /// Each of the five asked with the longest table and with one record more,
 /// and with 64 roots and one more.
 fn case_k() -> Vec<Case> {
@@ -315,8 +322,10 @@ fn case_k() -> Vec<Case> {
         read("K, 32,776 bytes", over(), 0, &[0, 0], no),
         read("K, 64 roots", roots(64, before), 63, &[0, 0], one),
         read("K, 65 roots", many(), 63, &[0, 0], no),
+        show("K, 32,768 bytes", last_used(1), 0, [32_760, 8]),
         show("K, 32,776 bytes", over(), 0, EMPTY),
-        show("K, 65 roots", many(), 63, EMPTY),
+        show("K, 64 roots", last_used(64), 63, [32_760, 8]),
+        show("K, 65 roots", last_used(65), 64, EMPTY),
         swap("K, 32,768 bytes", records(4_096, before), 0, made, there()),
         swap("K, 32,776 bytes", over(), 0, no, over()),
         swap("K, 64 roots", roots(64, before), 0, made, roots(64, after)),
@@ -406,9 +415,6 @@ fn shared_lower_records() -> Vec<Case> {
 fn parts_shown() -> Vec<Case> {
     let roots = || input(&[A_0, A_1, FREE], &[0, 3, 1, 2], &[0, 1]);
     let idle = input(&[A_0, A_1, FREE], &[2], &[0, 1]);
-    let mut last = vec![FREE; 4_096];
-    last[4_095] = used(0, 0, 1);
-    let last = input(&last, &[4_097], &[0]);
     vec![
         show("A shown", a(), 0, [8, 8]),
         show("A afterwards, shown", a_after(), 0, [8, 8]),
@@ -419,7 +425,6 @@ fn parts_shown() -> Vec<Case> {
         show("no root 4", roots(), 4, EMPTY),
         show("no root 256", roots(), 256, EMPTY),
         show("no such root by far", roots(), LARGEST, EMPTY),
-        show("record 4,095", last, 0, [32_760, 8]),
         show("a refused table", idle, 0, EMPTY),
         show("no roots", alone(&[0]), 0, EMPTY),
     ]

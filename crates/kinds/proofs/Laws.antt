@@ -17,7 +17,6 @@ use Rattle.diagrams.specs.Reduced.{look-plain}
 use Rattle.one_swap.specs.Record.{lowOf, highOf, isOf, of-true}
 use Rattle.one_swap.specs.Swap.{grandchild, crosses}
 use Rattle.kinds.specs.Kinds.{crossesAt, standsAt, of-is}
-use Rattle.kinds.specs.Inside.{entries}
 
 -- ---- a used record of a variable
 

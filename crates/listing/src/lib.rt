@@ -1,7 +1,7 @@
 // The text that the program prints, put into a lent list of bytes. Each function puts its part at a place of the list and hands
 // back the place after it.
 ghost use mathlib.Core.Path.{_≡_};
-ghost use Prim.Native.Nat.{_+_, _*_, _≤_};
+ghost use Prim.Native.Nat.{_≤_};
 ghost use lib.ListN.{length};
 ghost use Rattle.diagrams.specs.Layout.{rootCount, records, mostRecords, InTable};
 ghost use Rattle.listing.specs.Put.{Put, Room, Printed};

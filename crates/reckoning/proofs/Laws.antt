@@ -1,5 +1,5 @@
 -- What a swap asks for and what it names, in its work area: one law for each way out of a function, over plain variables.
-use Prim.Native.Nat.{ℕ, _+_, _-_, _*_, _≤_, _<_}
+use Prim.Native.Nat.{ℕ, _+_, _*_, _≤_, _<_}
 use mathlib.Core.Bool.{Bool, true, false, not, _&&_}
 use mathlib.Core.List.{List}
 use mathlib.Core.Path.{_≡_, sym, _∙_}
@@ -12,11 +12,10 @@ use Rattle.lists.specs.First.{first, any}
 use Rattle.lists.specs.Entries.{through}
 use Rattle.lists.specs.Fold.{fold, Steps}
 use Rattle.diagrams.specs.Layout.{mostRecords, records, rootCount, rootAt, lowAt, highAt, isUsed}
-use Rattle.diagrams.specs.Node.{at, ref}
+use Rattle.diagrams.specs.Node.{ref}
 use Rattle.diagrams.specs.Lookup.{lookup}
 use Rattle.flaws.specs.Meaning.{Sized}
 use Rattle.one_swap.specs.Record.{isOf}
-use Rattle.one_swap.specs.Swap.{f00, f01, f10, f11}
 use Rattle.kinds.specs.Grands.{Grands}
 use Rattle.kinds.specs.declared.Grandchildren.{Grandchildren}
 use Rattle.kinds.specs.Inside.{entries}

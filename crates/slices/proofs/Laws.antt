@@ -11,7 +11,6 @@ use lib.Seq.{getD-take}
 use Rattle.lists.specs.First.{passed-all}
 use Rattle.lists.specs.Says.{true-false}
 use Rattle.lists.specs.Truth.{or-neither}
-use Rattle.diagrams.specs.Node.{at}
 use Rattle.orders.specs.Permutation.{ceiling, Permutation}
 use Rattle.orders.specs.Exchange.{exchange}
 use Rattle.orders.specs.Order.{loadOrder, exchangedOrder, Inverse}
@@ -117,10 +116,6 @@ module _ (t r : List ℕ) {order goal : Order} {n : ℕ} (h : Arranged order n) 
           }
 
     -- ---- the answer, judged on the state left
-    not-there : over.arrived (relay r) bringUp (bytesOf goal n) (stateOf t order n) ≡ false
-    unfolding over.arrived relay
-    not-there = sym same ∙ differ
-
     module _ (swaps : ℕ) {l : ℕ} (counted : l ≡ left (bytesOf order n) (bytesOf goal n)) {a : Room} (out : a ≡ roomOf t r x y) where
       pub judge-stuck : (m f : ℕ) → a ≡ room.NoRoom m f
           → NoRoom swaps l k m f ≡ answerOf r swaps (left (bytesOf order n) (bytesOf goal n)) (stateOf t order n) (over.judge (relay r) bringUp (bytesOf goal n) (stateOf t order n))

@@ -159,12 +159,6 @@ ran-join r w v =
     ap (λ m. more m (answerOf r (v .swaps) (v .left) (v .state) (v .judgement))) (answer-swaps r (w .swaps) (w .left) (w .state) (w .judgement)) ∙ answer-more r (w .swaps) (v .swaps) (v .left) (v .state) (v .judgement) in
     ap (λ z. record { answer = z; table = v .state .table; order = v .state .order }) a
 
--- ---- a run of a table that the relay can use, towards a permutation of its variables
-
-table-passes : (t r o : List ℕ) → AllPass (checkStages t r o) → AllPass (tableStages t r o)
-unfolding checkStages
-table-passes t r o (also h (also p rest)) = rest
-
 -- ---- the swap that a run makes is Swap's
 
 pub goes-made : (r g : List ℕ) → Permutation g → (s : State) → Good r (length g) s → over.goes (relay r) bringUp g s ≡ true
@@ -174,6 +168,12 @@ goes-made r g target s w e =
     let k : ℕ = over.next (relay r) bringUp g s in
     let level : k + 1 < length (s .order) = over.planned-inversion (relay r) bringUp g (Good r (length g)) (relay-laws r (length g)) bring-up-lawful target s w e .within in
     swap-made (s .table) r (s .order) k (w .0) level (fits-then (s .table) r (xAt (s .order) k) (yAt (s .order) k) (over.goes-on (relay r) bringUp g s e .1))
+
+-- ---- a run of a table that the relay can use, towards a permutation of its variables
+
+table-passes : (t r o : List ℕ) → AllPass (checkStages t r o) → AllPass (tableStages t r o)
+unfolding checkStages
+table-passes t r o (also h (also p rest)) = rest
 
 module _ (t r o g : List ℕ) (usable : Usable t r o) (target : Permutation g) (long : length g ≡ length o) where
   abbrev s₀ : State

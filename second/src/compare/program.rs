@@ -113,7 +113,7 @@ fn hold_program_to(
     let told = !output.stderr.is_empty();
     if told || output.status.code() != Some(0) || output.stdout != text.as_bytes() {
         return Err(format!(
-            "{}program, {}:\n{}{}\nexpected, exit status 0:\n{text}",
+            "{}program, {}, standard error:\n{}\nstandard output:\n{}\nexpected, exit status 0:\n{text}",
             hex(files),
             output.status,
             String::from_utf8_lossy(&output.stderr),
