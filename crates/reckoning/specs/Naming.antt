@@ -20,7 +20,7 @@ use Rattle.diagrams.specs.Node.{free, node, at, ref, two-more}
 use Rattle.diagrams.specs.Decode.{nodeAt, decode}
 use Rattle.diagrams.specs.Lookup.{lookup, at-decode, rootsOf, length-roots, root-is}
 use Rattle.flaws.specs.Tests.{rootNames}
-use Rattle.flaws.specs.Marks.{roots-long, roots-has, records-long, records-has, length-no-marks, none-marked}
+use Rattle.marks.specs.Marks.{roots-long, roots-has, records-long, records-has, length-no-marks, none-marked}
 use Rattle.one_swap.specs.Record.{lowOf, highOf, isFreeNode}
 use Rattle.one_swap.specs.Swap.{crosses, names, dies}
 use Rattle.kinds.specs.Kinds.{of-is, ofAt, crossesAt, standsAt}

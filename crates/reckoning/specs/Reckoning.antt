@@ -13,7 +13,7 @@ use Rattle.diagrams.specs.Layout.{records, rootCount, rootAt, lowAt, highAt, is
 use Rattle.diagrams.specs.Node.{Node, free, node, ref}
 use Rattle.diagrams.specs.Decode.{nodeAt}
 use Rattle.diagrams.specs.Lookup.{lookup}
-use Rattle.flaws.specs.Marks.{noMarks}
+use Rattle.marks.specs.Marks.{noMarks}
 use Rattle.one_swap.specs.Swap.{f00, f01, f10, f11}
 use Rattle.kinds.specs.Kinds.{ofAt, crossesAt}
 

@@ -1,4 +1,4 @@
-// Swap two neighbouring levels of a stored diagram. The reckoning reads the table, `rewrite` puts the table afterwards into an image;
+// Swap two neighbouring levels of a stored diagram. The reckoning reads the table, and the table afterwards is put into an image;
 // the lent buffers are written only when everything is known.
 ghost use mathlib.Core.Path.{_≡_};
 ghost use Prim.Native.Nat.{_*_, _≤_, _<_};
@@ -6,18 +6,15 @@ ghost use lib.ListN.{length, take};
 ghost use Rattle.diagrams.specs.Layout.{mostRecords, recordSize};
 ghost use Rattle.flaws.specs.Meaning.{Sized};
 ghost use Rattle.swaps.specs.Outcome.{roomOf, Prepared, RoomOutcome, SwapOutcome};
-
-mod rewrite;
-
 use checks::Verdict;
 use diagrams::MOST_RECORDS;
 use diagrams::RECORD_SIZE;
 use diagrams::Variable;
+use image::Numbers;
 use kinds::collect;
 use orders::Order;
 use reckoning::names;
 use reckoning::news;
-use rewrite::Numbers;
 
 // Was there room for a swap?
 pub enum Room {
@@ -79,7 +76,7 @@ fn prepare(table: &[u8], roots: &[u8], x: Variable, y: Variable, image: &mut [u8
         needed,
         free,
     };
-    rewrite::rewrite(
+    image::rewrite(
         table,
         &crossing,
         &standing,

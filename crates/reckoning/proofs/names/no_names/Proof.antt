@@ -1,5 +1,5 @@
 use borrow.Author.Needs.{needs}
-use Rattle.flaws.specs.Marks.{noMarks}
+use Rattle.marks.specs.Marks.{noMarks}
 use Rattle.reckoning.proofs.names.no_names.Statement.{statement}
 use Rattle.reckoning.proofs.names.no_names.Tie as tie
 

@@ -1,8 +1,0 @@
-use borrow.Author.Needs.{needs}
-use Rattle.flaws.specs.Marks.{unmarked}
-use Rattle.flaws.proofs.names.is_unmarked.Statement.{statement}
-use Rattle.flaws.proofs.names.is_unmarked.Tie as tie
-
-pub is-unmarked-spec : {M : Type 1} → statement M
-unfolding unmarked
-is-unmarked-spec = tie.close (tie.spec (λ c. search needs) (λ c κs. search needs) (λ c. search needs) (λ c. cc))

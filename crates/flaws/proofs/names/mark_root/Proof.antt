@@ -1,6 +1,0 @@
-use Rattle.flaws.proofs.Laws.{marking}
-use Rattle.flaws.proofs.names.mark_root.Statement.{statement}
-use Rattle.flaws.proofs.names.mark_root.Tie as tie
-
-pub mark-root-spec : {M : Type 1} → statement M
-mark-root-spec = tie.close (tie.spec (λ c κs. search marking) (λ c κs. search marking) (λ c. search marking) (λ c. search marking))

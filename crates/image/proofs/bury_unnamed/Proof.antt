@@ -1,0 +1,14 @@
+use Rattle.image.proofs.Laws.{burying}
+use Rattle.image.proofs.bury_unnamed.Statement.{statement}
+use Rattle.image.proofs.bury_unnamed.Tie as tie
+
+pub bury-unnamed-spec : {M : Type 1} → statement M
+bury-unnamed-spec =
+    tie.close
+    (tie.spec
+    (λ c κs. search burying)
+    (λ c κs. search burying)
+    (λ c κs. search burying)
+    (λ c. search burying)
+    (λ c. search burying)
+    (λ c. search burying))
