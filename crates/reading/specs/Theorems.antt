@@ -30,7 +30,7 @@ use Rattle.reading.specs.declared.Reading.the-variants as reading
 
 module _ (t r o : List ℕ) (usable : Usable t r o) where
   root-vertex : (position : ℕ) → position < rootCount r → Vertex Constant (lookup t) (rootAt r position)
-  root-vertex position l = rw (root-is r position l) at (usable .bryant .graph .rooted position (rw (length-roots r) l))
+  root-vertex position l = rw (root-is r position l) at (usable .bryant .graph .rooted _ (record { index = position; below = rw (length-roots r) l; holds = refl }))
 
   pub meets-constant : (position : ℕ) → position < rootCount r → (inputs : ℕ → Bool) → Constant (met (lookup t) inputs (length o) (rootAt r position))
   meets-constant position l inputs = meets-terminal (look-plain (at (decode t))) (usable .bryant .graph) inputs (rootAt r position) (root-vertex position l)

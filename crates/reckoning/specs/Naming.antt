@@ -21,6 +21,7 @@ use Rattle.diagrams.specs.Decode.{nodeAt, decode}
 use Rattle.diagrams.specs.Lookup.{lookup, at-decode, rootsOf, length-roots, root-is}
 use Rattle.flaws.specs.Tests.{rootNames}
 use Rattle.marks.specs.Marks.{roots-long, roots-has, records-long, records-has, length-no-marks, none-marked}
+use Rattle.diagrams.specs.Edition.{plain}
 use Rattle.one_swap.specs.Record.{lowOf, highOf, isFreeNode}
 use Rattle.one_swap.specs.Swap.{crosses, names, dies}
 use Rattle.kinds.specs.Kinds.{of-is, ofAt, crossesAt, standsAt}
@@ -120,7 +121,7 @@ module _ (t : List ℕ) (x y : ℕ) where
       go true false b false = refl
       go false e b n = refl
 
-  names-is : (roots : List ℕ) (q j : ℕ) → j < records t → names (at (decode t)) (records t) x y roots q j ≡ keeps t x y q j
+  names-is : (roots : List ℕ) (q j : ℕ) → j < records t → names plain (at (decode t)) (records t) x y roots q j ≡ keeps t x y q j
   unfolding names nodeAt isFreeNode lowOf highOf
   names-is roots q j h = rw (at-decode t j h) (go (isFree t j))
     where
@@ -172,11 +173,11 @@ module _ (t : List ℕ) (x y : ℕ) where
     unfolding rootNames
     roots-named q = rw (length-roots r) (ap (λ k. ltb k (rootCount r)) (first-agrees _ _ (rootCount r) (λ k h. ap (λ v. eqb v q) (root-is r k h))))
 
-    records-name : (q : ℕ) → any (names (at (decode t)) (records t) x y (rootsOf r) q) (records t) ≡ any (keeps t x y q) (records t)
+    records-name : (q : ℕ) → any (names plain (at (decode t)) (records t) x y (rootsOf r) q) (records t) ≡ any (keeps t x y q) (records t)
     records-name q = ap (λ k. ltb k (records t)) (first-agrees _ _ (records t) (names-is (rootsOf r) q))
 
     -- a y record without a name dies
-    pub dies-is : records t ≤ mostRecords → (i : ℕ) → i < records t → (ofAt t y i && unnamed (namesOf t r x standing m) i) ≡ dies (at (decode t)) (records t) x y (rootsOf r) (ref i)
+    pub dies-is : records t ≤ mostRecords → (i : ℕ) → i < records t → (ofAt t y i && unnamed (namesOf t r x standing m) i) ≡ dies plain (at (decode t)) (records t) x y (rootsOf r) (ref i)
     unfolding unnamed dies
     dies-is few i h = ap (λ b. ofAt t y i && b) (turned _ _ (names-say (i + 2) (omega arith))) ∙ rw (two-more i, roots-named (ref i), records-name (ref i)) (go (ofAt t y i) (any (rootNames r (ref i)) (rootCount r)) (any (keeps t x y (ref i)) (records t)))
       where

@@ -19,6 +19,7 @@ use Rattle.checks.specs.Stages.{Stage, stageAt}
 use Rattle.checks.specs.Check.{orderStage, tableStages}
 use Rattle.checks.specs.declared.Verdict as judged
 use Rattle.checks.specs.declared.Verdict.the-variants as verdict
+use Rattle.diagrams.specs.Edition.{plain}
 use Rattle.one_swap.specs.Swap.{xAt, yAt, needed, freeCount}
 use Rattle.swaps.specs.Outcome.{fitsIn, tableAfter}
 use Rattle.slices.specs.Slices as over
@@ -52,8 +53,8 @@ unfoldable pub answerOf : List ℕ → ℕ → ℕ → State → Judgement → S
 answerOf r swaps left s done = Done swaps left
 answerOf r swaps left s (noRoom k) =
     NoRoom swaps left k
-    (needed (at (decode (s .table))) (records (s .table)) (xAt (s .order) k) (yAt (s .order) k) (rootsOf r))
-    (freeCount (at (decode (s .table))) (records (s .table)) (xAt (s .order) k) (yAt (s .order) k) (rootsOf r))
+    (needed plain (at (decode (s .table))) (records (s .table)) (xAt (s .order) k) (yAt (s .order) k) (rootsOf r))
+    (freeCount plain (at (decode (s .table))) (records (s .table)) (xAt (s .order) k) (yAt (s .order) k) (rootsOf r))
 answerOf r swaps left s paused = Paused swaps left
 
 -- the answer and every buffer that is lent for writing

@@ -29,6 +29,7 @@ use Rattle.checks.specs.Check.{checkStages}
 use Rattle.checks.specs.Usable.{Passes, passes-all}
 use Rattle.checks.specs.declared.Verdict.{Verdict}
 use Rattle.checks.specs.declared.Verdict.the-variants as verdict
+use Rattle.diagrams.specs.Edition.{plain}
 use Rattle.one_swap.specs.Swap.{xAt, yAt, needed, freeCount, after, swapped}
 use Rattle.reckoning.specs.Reckoning.{News, namesOf, rewritten}
 use Rattle.reckoning.specs.Reckoned.{Reckoned, needed-is, free-count-is, fits-is, rewritten-is}
@@ -62,14 +63,14 @@ module _ {t : List ℕ} {x y : ℕ} {standing : List ℕ} {m : ℕ} {p : News} {
     nodes : ℕ → Node
     nodes = rewritten t x y standing m p slots frees names
 
-    fewer : needed (at (decode t)) (records t) x y (rootsOf r) ≤ freeCount (at (decode t)) (records t) x y (rootsOf r)
+    fewer : needed plain (at (decode t)) (records t) x y (rootsOf r) ≤ freeCount plain (at (decode t)) (records t) x y (rootsOf r)
     fewer = rw (← needed-is R (rootsOf r), ← free-count-is R (rootsOf r)) h
 
-    swapped-nodes : tabulate (records t) nodes ≡ swapped (decode t) x y (rootsOf r)
+    swapped-nodes : tabulate (records t) nodes ≡ swapped plain (decode t) x y (rootsOf r)
     unfolding swapped nodes
     swapped-nodes =
         tabulate-agrees (records t) _ _ (λ i b. rewritten-is R r names names-are fewer i b)
-        ∙ ap (λ n. tabulate n (after (at (decode t)) n x y (rootsOf r))) (sym (length-decode t))
+        ∙ ap (λ n. tabulate n (after plain (at (decode t)) n x y (rootsOf r))) (sym (length-decode t))
 
     long-encode : length (encode (tabulate (records t) nodes)) ≡ length t
     long-encode = length-encode (tabulate (records t) nodes) ∙ ap (λ n. recordSize * n) (length-tabulate (records t) nodes) ∙ omega arith

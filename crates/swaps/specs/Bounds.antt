@@ -18,6 +18,7 @@ use Rattle.checks.specs.Check.{checkStages}
 use Rattle.checks.specs.Theorems.{Bounded, refusal-small}
 use Rattle.checks.specs.declared.Verdict.{Verdict}
 use Rattle.checks.specs.declared.Verdict.the-variants as verdict
+use Rattle.diagrams.specs.Edition.{plain}
 use Rattle.one_swap.specs.Record.{isFreeNode, same}
 use Rattle.one_swap.specs.Swap.{xAt, yAt, bothAsked, crossing, isNew, wanted, news, needed, freeCount}
 use Rattle.swaps.specs.Outcome.{fitsIn, roomOf, noLevel, swapStages, swapAfter, swapJudged, swapOf, numbers}
@@ -25,22 +26,22 @@ use Rattle.swaps.specs.declared.Room.the-variants as room
 
 module _ (T : ℕ → Node) (N x y : ℕ) (roots : List ℕ) where
   -- each crossing record asks for two
-  wanted-small : length (wanted T N x y roots) ≤ 2 * N
+  wanted-small : length (wanted plain T N x y roots) ≤ 2 * N
   unfolding wanted
   wanted-small =
-      omega (arith, each-length (bothAsked T N x y roots) 2 (λ i. refl) (which (crossing T N x y roots) N), which-length (crossing T N x y roots) N, count-small (crossing T N x y roots) N)
+      omega (arith, each-length (bothAsked plain T N x y roots) 2 (λ i. refl) (which (crossing plain T N x y roots) N), which-length (crossing plain T N x y roots) N, count-small (crossing plain T N x y roots) N)
 
-  pub needed-small : needed T N x y roots ≤ 2 * N
+  pub needed-small : needed plain T N x y roots ≤ 2 * N
   unfolding needed news
-  needed-small = omega (arith, once-short same (keep (isNew T N x y roots) (wanted T N x y roots)), keep-short (isNew T N x y roots) (wanted T N x y roots), wanted-small)
+  needed-small = omega (arith, once-short same (keep (isNew plain T N x y roots) (wanted plain T N x y roots)), keep-short (isNew plain T N x y roots) (wanted plain T N x y roots), wanted-small)
 
-  pub free-small : freeCount T N x y roots ≤ N
+  pub free-small : freeCount plain T N x y roots ≤ N
   unfolding freeCount
   free-small = count-small (λ i. isFreeNode (T i)) N
 
 -- both are small of a table that isn't too long
 pub room-small : (t r : List ℕ) (x y m : ℕ) → 2 * mostRecords < m → length t ≤ recordSize * mostRecords
-    → (needed (at (decode t)) (records t) x y (rootsOf r) < m) × (freeCount (at (decode t)) (records t) x y (rootsOf r) < m)
+    → (needed plain (at (decode t)) (records t) x y (rootsOf r) < m) × (freeCount plain (at (decode t)) (records t) x y (rootsOf r) < m)
 room-small t r x y m big few =
     (omega (arith, needed-small (at (decode t)) (records t) x y (rootsOf r)), omega (arith, free-small (at (decode t)) (records t) x y (rootsOf r)))
 

@@ -18,7 +18,7 @@ use Rattle.diagrams.specs.Decode.{nodeAt, decode, eight, WellLaid, encode-decod
 use Rattle.diagrams.specs.Store.{length-encode}
 use Rattle.diagrams.specs.Encode.{Small, AllSmall, decode-encode, encode-laid, take-record}
 use Rattle.diagrams.specs.Lookup.{rootsOf, lookup, length-roots, root-is}
-use Rattle.diagrams.specs.Bryant.{Vertex}
+use Rattle.diagrams.specs.Bryant.{Among, Vertex}
 use Rattle.diagrams.specs.Levels.{free-node}
 use Rattle.diagrams.specs.Diagram.{Diagram}
 use Rattle.diagrams.specs.Reduced.{diagram-of, look-plain}
@@ -30,9 +30,10 @@ use Rattle.checks.specs.Theorems.{accepts}
 use Rattle.checks.specs.declared.Verdict.{Verdict}
 use Rattle.checks.specs.declared.Verdict.the-variants as verdict
 use Rattle.checks.specs.declared.Answer.the-variants.{Accepted}
+use Rattle.diagrams.specs.Edition.{plain}
 use Rattle.one_swap.specs.Record.{isUsedNode, isFreeNode, Behind, behind}
 use Rattle.one_swap.specs.Swap.{xAt, yAt, crosses, dies, needed, freeCount, fits, filled, dying, usedCount, swapped}
-use Rattle.one_swap.specs.Stored.{length-swapped}
+use Rattle.one_swap.specs.Stored.{plain-written, length-swapped}
 use Rattle.one_swap.specs.Theorem.{Cofactors, swap-diagram, swap-bryant, swap-root, swap-reads, swap-else, swap-count, cofactors}
 use Rattle.swaps.specs.Outcome.{fitsIn, roomOf, room-fits, room-lacks, tableAfter, noLevel, swapStages, Swapped, swapAfter, swapJudged, swapOf, SwapOutcome}
 use Rattle.swaps.specs.declared.Room.{Room}
@@ -49,7 +50,7 @@ length-decode t = length-tabulate (records t) (nodeAt t)
 module _ (t r : List ℕ) (x y : ℕ) where
   bytes-of : length (tableAfter t r x y) ≡ recordSize * records t
   unfolding tableAfter
-  bytes-of = length-encode (swapped (decode t) x y (rootsOf r)) ∙ ap (λ n. recordSize * n) (length-swapped (decode t) x y (rootsOf r) ∙ length-decode t)
+  bytes-of = length-encode (swapped plain (decode t) x y (rootsOf r)) ∙ ap (λ n. recordSize * n) (length-swapped plain (decode t) x y (rootsOf r) ∙ length-decode t)
 
   pub records-after : records (tableAfter t r x y) ≡ records t
   records-after = omega (arith, bytes-of)
@@ -82,19 +83,19 @@ module _ (t r o : List ℕ) (k : ℕ) (usable : Usable t r o) (level : k + 1 < l
 
   -- the records afterwards, and their bytes
   abbrev S : List Node
-  S = swapped (decode t) x y (rootsOf r)
+  S = swapped plain (decode t) x y (rootsOf r)
 
   abbrev t′ : List ℕ
   t′ = tableAfter t r x y
 
-  fit-decoded : fits (at (decode t)) (length (decode t)) x y (rootsOf r) ≡ true
+  fit-decoded : fits plain (at (decode t)) (length (decode t)) x y (rootsOf r) ≡ true
   fit-decoded = rw (length-decode t) fit
 
-  before : Diagram Constant (lookup t) (rootsOf r) (levelOf o) (length o)
+  before : Diagram Constant (lookup t) (Among (rootsOf r)) (levelOf o) (length o)
   before = diagram-of (look-plain (at (decode t))) (usable .bryant)
 
-  again : Diagram Constant (look (at S)) (rootsOf r) (levelOf (exchange o k)) (length (exchange o k))
-  again = swap-diagram (decode t) (rootsOf r) o k (usable .order) level fit-decoded before
+  again : Diagram Constant (look (at S)) (Among (rootsOf r)) (levelOf (exchange o k)) (length (exchange o k))
+  again = swap-diagram (decode t) (plain-written (decode t)) (rootsOf r) o k (usable .order) level fit-decoded before
 
   exchanged : Permutation (exchange o k)
   exchanged = exchange-permutation o k (usable .order) level
@@ -104,7 +105,7 @@ module _ (t r o : List ℕ) (k : ℕ) (usable : Usable t r o) (level : k + 1 < l
   below-most : (i : ℕ) {v l h : ℕ} → at S i ≡ node v l h → i < mostRecords
   below-most i e =
       either-side i (length S)
-      (λ b. omega (arith, length-swapped (decode t) x y (rootsOf r), length-decode t, usable .sizes .few-records))
+      (λ b. omega (arith, length-swapped plain (decode t) x y (rootsOf r), length-decode t, usable .sizes .few-records))
       (λ b. free-node (List·getD-eq-default S free b) e)
 
   reference-small : (c : ℕ) → Vertex Constant (look (at S)) c → c < 65536
@@ -148,7 +149,7 @@ module _ (t r o : List ℕ) (k : ℕ) (usable : Usable t r o) (level : k + 1 < l
     };
     order = exchanged;
     laid = laid-after;
-    bryant = rw decode-after (swap-bryant (decode t) (rootsOf r) o k (usable .order) level fit-decoded (usable .bryant));
+    bryant = rw decode-after (swap-bryant (decode t) (plain-written (decode t)) (rootsOf r) o k (usable .order) level fit-decoded (usable .bryant));
   }
     where
       same : length t′ ≡ length t
@@ -162,7 +163,7 @@ module _ (t r o : List ℕ) (k : ℕ) (usable : Usable t r o) (level : k + 1 < l
       → value (lookup t′) inputs (length o) (rootAt r position) ≡ value (lookup t) inputs (length o) (rootAt r position)
   swap-root-value inputs position b =
       let e : value (look (at S)) inputs (length o) (getD (rootsOf r) position 0) ≡ value (lookup t) inputs (length o) (getD (rootsOf r) position 0) =
-      swap-root (decode t) (rootsOf r) o k (usable .order) level fit-decoded before inputs position (rw (length-roots r) b) in
+      swap-root (decode t) (plain-written (decode t)) (rootsOf r) o k (usable .order) level fit-decoded before inputs position (rw (length-roots r) b) in
       rw decode-after (rw (root-is r position b) at e)
 
   -- the same, of what a root reads as
@@ -174,35 +175,35 @@ module _ (t r o : List ℕ) (k : ℕ) (usable : Usable t r o) (level : k + 1 < l
 
   -- the function of a crossing record, and those of its new children
   pub swap-cofactors : (q : ℕ) → crosses (lookup t) x y q ≡ true → Cofactors (lookup t) (lookup t′) (length o) x y q
-  swap-cofactors q c = rw decode-after (cofactors (decode t) (rootsOf r) o k (usable .order) level fit-decoded before q c)
+  swap-cofactors q c = rw decode-after (cofactors (decode t) (plain-written (decode t)) (rootsOf r) o k (usable .order) level fit-decoded before q c)
 
   -- the used records are those before, plus new, less dying
-  pub swap-used : used t′ + dying (at (decode t)) (records t) x y (rootsOf r) ≡ used t + needed (at (decode t)) (records t) x y (rootsOf r)
+  pub swap-used : used t′ + dying plain (at (decode t)) (records t) x y (rootsOf r) ≡ used t + needed plain (at (decode t)) (records t) x y (rootsOf r)
   swap-used =
-      let e : usedCount (at S) (records t) + dying (at (decode t)) (records t) x y (rootsOf r) ≡ usedCount (at (decode t)) (records t) + needed (at (decode t)) (records t) x y (rootsOf r) =
-      rw (length-decode t) at (swap-count (decode t) (rootsOf r) o k (usable .order) level fit-decoded) in
+      let e : usedCount (at S) (records t) + dying plain (at (decode t)) (records t) x y (rootsOf r) ≡ usedCount (at (decode t)) (records t) + needed plain (at (decode t)) (records t) x y (rootsOf r) =
+      rw (length-decode t) at (swap-count (decode t) (plain-written (decode t)) (rootsOf r) o k (usable .order) level fit-decoded) in
       let u : used t′ ≡ usedCount (at S) (records t) = used-is t′ ∙ rw (decode-after, records-after t r x y) in
       rw (u, used-is t) e
 
   -- "Nothing else changes.": a record that does not cross, that no new one goes to and that does not die keeps its eight bytes
   pub kept-bytes : ((j : ℕ) → getD t j 0 < 256) → (i : ℕ) → i < records t → crosses (lookup t) x y (ref i) ≡ false
-      → filled (at (decode t)) (records t) x y (rootsOf r) i ≡ false → dies (at (decode t)) (records t) x y (rootsOf r) (ref i) ≡ false
+      → filled plain (at (decode t)) (records t) x y (rootsOf r) i ≡ false → dies plain (at (decode t)) (records t) x y (rootsOf r) (ref i) ≡ false
       → take recordSize (drop (recordSize * i) t′) ≡ take recordSize (drop (recordSize * i) t)
   unfolding tableAfter
   kept-bytes bytes i b c g d =
       let b₀ : i < length (decode t) = rw (length-decode t) b in
-      let b₁ : i < length S = rw (length-swapped (decode t) x y (rootsOf r)) b₀ in
-      let e : at S i ≡ at (decode t) i = swap-else (decode t) (rootsOf r) o k (usable .order) level fit-decoded i c (rw (length-decode t) g) (rw (length-decode t) d) in
+      let b₁ : i < length S = rw (length-swapped plain (decode t) x y (rootsOf r)) b₀ in
+      let e : at S i ≡ at (decode t) i = swap-else (decode t) (plain-written (decode t)) (rootsOf r) o k (usable .order) level fit-decoded i b₀ c (rw (length-decode t) g) (rw (length-decode t) d) in
       take-record S i b₁ ∙ ap eight e ∙ sym (take-record (decode t) i b₀) ∙ ap (λ s. take recordSize (drop (recordSize * i) s)) (encode-decode t bytes (usable .laid))
 
 -- ---- room
 
 module _ (t r : List ℕ) (x y : ℕ) where
   abbrev pub Needed : ℕ
-  Needed = needed (at (decode t)) (records t) x y (rootsOf r)
+  Needed = needed plain (at (decode t)) (records t) x y (rootsOf r)
 
   abbrev pub Free : ℕ
-  Free = freeCount (at (decode t)) (records t) x y (rootsOf r)
+  Free = freeCount plain (at (decode t)) (records t) x y (rootsOf r)
 
   fits-if : Needed ≤ Free → fitsIn t r x y ≡ true
   unfolding fits

@@ -15,6 +15,7 @@ use Rattle.checks.specs.Stages.{Stage, stageAt, judge}
 use Rattle.checks.specs.Check.{checkStages}
 use Rattle.checks.specs.declared.Verdict.{Verdict}
 use Rattle.checks.specs.declared.Verdict.the-variants as verdict
+use Rattle.diagrams.specs.Edition.{plain}
 use Rattle.one_swap.specs.Swap.{xAt, yAt, needed, freeCount, fits, swapped}
 use Rattle.swaps.specs.declared.Room.{Room}
 use Rattle.swaps.specs.declared.Room.the-variants as room
@@ -24,16 +25,16 @@ use Rattle.swaps.specs.declared.Swapping.the-variants.{Made, NoRoom, Ref
 -- ---- of a table that is accepted, with x and y at the two levels
 
 abbrev pub fitsIn : List ℕ → List ℕ → ℕ → ℕ → Bool
-fitsIn t r x y = fits (at (decode t)) (records t) x y (rootsOf r)
+fitsIn t r x y = fits plain (at (decode t)) (records t) x y (rootsOf r)
 
 unfoldable pub roomOf : List ℕ → List ℕ → ℕ → ℕ → Room
 roomOf t r x y =
     cond (fitsIn t r x y) room.Made
-    (room.NoRoom (needed (at (decode t)) (records t) x y (rootsOf r)) (freeCount (at (decode t)) (records t) x y (rootsOf r)))
+    (room.NoRoom (needed plain (at (decode t)) (records t) x y (rootsOf r)) (freeCount plain (at (decode t)) (records t) x y (rootsOf r)))
 
 -- the table afterwards, where there is room
 unfoldable pub tableAfter : List ℕ → List ℕ → ℕ → ℕ → List ℕ
-tableAfter t r x y = encode (swapped (decode t) x y (rootsOf r))
+tableAfter t r x y = encode (swapped plain (decode t) x y (rootsOf r))
 
 -- the image holds the table afterwards
 pub record Prepared (t r : List ℕ) (x y : ℕ) (a : Room) (image : List ℕ) : Type 0 where
@@ -86,7 +87,7 @@ numbers (Refused number place) = number ∷ place ∷ []
 
 module _ (t r : List ℕ) (x y : ℕ) where
   abbrev lacking : Room
-  lacking = room.NoRoom (needed (at (decode t)) (records t) x y (rootsOf r)) (freeCount (at (decode t)) (records t) x y (rootsOf r))
+  lacking = room.NoRoom (needed plain (at (decode t)) (records t) x y (rootsOf r)) (freeCount plain (at (decode t)) (records t) x y (rootsOf r))
 
   pub room-fits : room.Made ≡ roomOf t r x y → fitsIn t r x y ≡ true
   unfolding roomOf
@@ -97,11 +98,11 @@ module _ (t r : List ℕ) (x y : ℕ) where
       go false q = let z : _≡_ {A = ℕ} 0 1 = cc in absurd (omega arith)
 
   pub room-lacks : (n f : ℕ) → room.NoRoom n f ≡ roomOf t r x y
-      → (fitsIn t r x y ≡ false) × (n ≡ needed (at (decode t)) (records t) x y (rootsOf r)) × (f ≡ freeCount (at (decode t)) (records t) x y (rootsOf r))
+      → (fitsIn t r x y ≡ false) × (n ≡ needed plain (at (decode t)) (records t) x y (rootsOf r)) × (f ≡ freeCount plain (at (decode t)) (records t) x y (rootsOf r))
   unfolding roomOf
   room-lacks n f e = go (fitsIn t r x y) e
     where
       go : (b : Bool) → room.NoRoom n f ≡ cond b room.Made lacking
-          → (b ≡ false) × (n ≡ needed (at (decode t)) (records t) x y (rootsOf r)) × (f ≡ freeCount (at (decode t)) (records t) x y (rootsOf r))
+          → (b ≡ false) × (n ≡ needed plain (at (decode t)) (records t) x y (rootsOf r)) × (f ≡ freeCount plain (at (decode t)) (records t) x y (rootsOf r))
       go true q = let z : _≡_ {A = ℕ} 0 1 = cc in absurd (omega arith)
       go false q = (refl, (cc), (cc))
