@@ -10,10 +10,11 @@ use borrow.Author.Tests.{lt-ltb, le-ltb, le-leb, lt-leb, ltb-true, ltb-false}
 use lib.Dec.{ltb}
 use lib.ListN.{length, take, drop, length-drop}
 use lib.Seq.{length-take-le}
+use Rattle.lists.specs.Apart.{apart}
 use Rattle.lists.specs.Says.{nowhere, either-side}
 use Rattle.diagrams.specs.Layout.{recordSize, mostRecords, records, rootCount, rootAt, InTable}
 use Rattle.diagrams.specs.Node.{Constant, ref}
-use Rattle.flaws.specs.Meaning.{root-says}
+use Rattle.check_records.specs.Meaning.{root-says}
 use Rattle.checks.specs.Stages.{judge, clear-only, row-refuses, row-passes, place-refuses, place-passes}
 use Rattle.checks.specs.Check.{checkStages, used, answered, checkOf}
 use Rattle.checks.specs.Theorems.{accepts-only}
@@ -94,7 +95,7 @@ module _ (t r o : List ℕ) (position : ℕ) where
       go (verdict.Refused k x) e = nothing (refused-table k x (checked-refused t r o k x e)) (refused-part t r o position refl k x e)
 
   not-both : (i : ℕ) → checkOf t r o ≡ answer.Accepted (used t) → position < rootCount r → ref i ≡ rootAt r position → Nothing t r o position → ⊥
-  not-both i a l e (refused-table k x f) = let z : _≡_ {A = ℕ} 0 1 = cc in omega arith
+  not-both i a l e (refused-table k x f) = apart (cc)
   not-both i a l e (no-such-root m) = omega arith
   not-both i a l e (constant-root c) = omega arith
 

@@ -6,6 +6,7 @@ use mathlib.Core.Path.{_≡_, refl, ap, sym, _∙_}
 use native.Mathlib.Omega.{arith}
 use borrow.Author.Tests.{lt-leb}
 use lib.ListN.{length}
+use Rattle.lists.specs.Apart.{apart}
 use Rattle.lists.specs.Count.{bit}
 use Rattle.diagrams.specs.Layout.{mostRecords, rootCount, rootAt}
 use Rattle.diagrams.specs.Node.{Constant, at}
@@ -54,7 +55,7 @@ module _ (t r o : List ℕ) (usable : Usable t r o) where
 -- ---- Read refuses with k at x exactly where check k fails first, at x
 
 read-refused : (v : Verdict) (b : Bool) (k x : ℕ) → readAfter v b ≡ reading.Refused k x → v ≡ verdict.Refused k x
-read-refused verdict.Clear b k x e = let z : _≡_ {A = ℕ} 0 1 = cc in absurd (omega arith)
+read-refused verdict.Clear b k x e = apart (cc)
 read-refused (verdict.Refused j y) b k x e = let p : j ≡ k = cc in let q : y ≡ x = cc in rw (p, q)
 
 module _ (t r o : List ℕ) (position : ℕ) (inputs : List ℕ) where

@@ -14,12 +14,12 @@ use Rattle.orders.specs.Permutation.{holdsAt, badPlace, levelOf}
 use Rattle.orders.specs.Exchange.{exchange}
 use Rattle.orders.specs.Inversions.{inverted, left}
 use Rattle.orders.specs.Plans.{differsAt, same?, bringUp, nearest}
-use Rattle.flaws.specs.Tests.{badSizes, dead, malformed, notUnder, notBelow, lowIsHigh, sameRecord, repeats, deadRoot, rootNames, recordNames, idle}
+use Rattle.check_records.specs.Tests.{badSizes, dead, malformed, notUnder, notBelow, lowIsHigh, sameRecord, repeats, deadRoot, rootNames, recordNames, idle}
 use Rattle.checks.specs.Stages.{only, judged}
 use Rattle.checks.specs.Check.{tableStages, used}
-use Rattle.one_swap.specs.Record.{lowOf, highOf, isFreeNode, isOf, same}
-use Rattle.one_swap.specs.Swap as one
-use Rattle.one_swap.specs.Swap.{grandchild, f00, f01, f10, f11, crosses, asked, stands, isNew, wanted, news, names, dies, slots, slotOf, X, becomes, needed, freeCount, fits, turn, filled, swapped}
+use Rattle.swap_rules.specs.Record.{lowOf, highOf, isFreeNode, isOf, same}
+use Rattle.swap_rules.specs.Swap as one
+use Rattle.swap_rules.specs.Swap.{grandchild, f00, f01, f10, f11, crosses, asked, stands, isNew, wanted, news, names, dies, slots, slotOf, X, becomes, needed, freeCount, fits, turn, filled, swapped}
 use Rattle.swaps.specs.Outcome.{tableAfter}
 use Rattle.slices.specs.Slices as over
 use Rattle.slices.specs.Slices.{arrived, next, goes, made, slice}

@@ -18,14 +18,14 @@ use Rattle.orders.specs.Inversions.{left, Adjacent}
 use Rattle.orders.specs.Plans.{same?, bringUp, bring-up-lawful}
 use Rattle.orders.specs.Arranged.{bytesOf, Arranged, load-bytes, load-arranged, arranged-length, arranged-inverse, exchanged-arranged, exchanged-bytes, arranged-adjacent}
 use Rattle.orders.specs.declared.Order.{Order}
-use Rattle.flaws.specs.Meaning.{Sized, sized}
-use Rattle.flaws.specs.Tests.{badSizes}
+use Rattle.check_records.specs.Meaning.{Sized, sized}
+use Rattle.check_records.specs.Tests.{badSizes}
 use Rattle.checks.specs.Stages as stages
 use Rattle.checks.specs.Stages.{clear-only, chain}
 use Rattle.checks.specs.declared.Verdict.{Verdict}
 use Rattle.checks.specs.declared.Verdict.the-variants as verdict
 use Rattle.checks.specs.Usable.{Usable}
-use Rattle.one_swap.specs.Swap.{xAt, yAt}
+use Rattle.swap_rules.specs.Swap.{xAt, yAt}
 use Rattle.swaps.specs.Outcome.{fitsIn, roomOf, tableAfter, RoomOutcome, room-fits, room-lacks}
 use Rattle.swaps.specs.declared.Room.{Room}
 use Rattle.swaps.specs.declared.Room.the-variants as room

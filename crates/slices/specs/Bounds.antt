@@ -10,14 +10,14 @@ use Rattle.diagrams.specs.Layout.{mostRecords}
 use Rattle.orders.specs.Permutation.{ceiling}
 use Rattle.orders.specs.Inversions.{left, left-small}
 use Rattle.orders.specs.Plans.{bringUp, bring-up-within}
-use Rattle.flaws.specs.Meaning.{Sizes}
+use Rattle.check_records.specs.Meaning.{Sizes}
 use Rattle.checks.specs.Stages as stages
 use Rattle.checks.specs.Stages.{FailsFirst, here, later, passed-only, clear-only, refused-only}
 use Rattle.checks.specs.Check.{tableStages}
 use Rattle.checks.specs.Theorems.{Bounded, refusal-below, table-bounded}
 use Rattle.checks.specs.declared.Verdict as judged
 use Rattle.checks.specs.declared.Verdict.the-variants as verdict
-use Rattle.one_swap.specs.Swap.{xAt, yAt}
+use Rattle.swap_rules.specs.Swap.{xAt, yAt}
 use Rattle.swaps.specs.Bounds.{room-small}
 use Rattle.slices.specs.Slices as over
 use Rattle.slices.specs.Slices.{done, noRoom, paused}

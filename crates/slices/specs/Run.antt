@@ -13,14 +13,14 @@ use Rattle.orders.specs.Exchange.{exchange}
 use Rattle.orders.specs.Plans.{bringUp}
 use Rattle.orders.specs.Arranged.{bytesOf, Arranged}
 use Rattle.orders.specs.declared.Order.{Order}
-use Rattle.flaws.specs.Tests.{badSizes}
+use Rattle.check_records.specs.Tests.{badSizes}
 use Rattle.checks.specs.Stages as stages
 use Rattle.checks.specs.Stages.{Stage, stageAt}
 use Rattle.checks.specs.Check.{orderStage, tableStages}
 use Rattle.checks.specs.declared.Verdict as judged
 use Rattle.checks.specs.declared.Verdict.the-variants as verdict
 use Rattle.diagrams.specs.Edition.{plain}
-use Rattle.one_swap.specs.Swap.{xAt, yAt, needed, freeCount}
+use Rattle.swap_rules.specs.Swap.{xAt, yAt, needed, freeCount}
 use Rattle.swaps.specs.Outcome.{fitsIn, tableAfter}
 use Rattle.slices.specs.Slices as over
 use Rattle.slices.specs.Slices.{Relay, Judgement, done, noRoom, paused}

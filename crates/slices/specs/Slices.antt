@@ -9,6 +9,7 @@ use native.Mathlib.Nat.{add-zero, zero-add, suc-add}
 use native.Mathlib.Omega.{arith}
 use lib.ListN.{length}
 use borrow.Author.Tests.{not-true}
+use Rattle.lists.specs.Apart.{apart}
 use Rattle.lists.specs.Says.{Says, true-false, refutes}
 use Rattle.lists.specs.Truth.{and-left, and-right}
 use Rattle.orders.specs.Permutation.{Permutation}
@@ -166,7 +167,7 @@ module _ {State : Type 0} (R : Relay State) (plan : Plan) (target : List ℕ) wh
       by false false e = inr refl
 
   pub ended-not-paused : (s : State) → Ended s → judge s ≡ paused → ⊥
-  ended-not-paused s w e = ⊎-elim (λ q. let z : _≡_ {A = ℕ} 0 1 = cc in omega arith) (λ q. let z : _≡_ {A = ℕ} 0 1 = cc in omega arith) w
+  ended-not-paused s w e = ⊎-elim (λ q. apart (cc)) (λ q. apart (cc)) w
 
   done-arrived : (s : State) → judge s ≡ done → arrived s ≡ true
   unfolding judge
@@ -183,8 +184,8 @@ module _ {State : Type 0} (R : Relay State) (plan : Plan) (target : List ℕ) wh
   stuck s k = by (arrived s) (R .fits s (next s)) refl
     where
       by : (a f : Bool) → R .fits s (next s) ≡ f → cond a done (cond (not f) (noRoom (next s)) paused) ≡ noRoom k → (a ≡ false) × (k ≡ next s) × (R .fits s k ≡ false)
-      by true f q e = let z : _≡_ {A = ℕ} 0 1 = cc in absurd (omega arith)
-      by false true q e = let z : _≡_ {A = ℕ} 0 1 = cc in absurd (omega arith)
+      by true f q e = apart (cc)
+      by false true q e = apart (cc)
       by false false q e = let p : k ≡ next s = cc in (refl, p, rw p q)
 
   -- each slice spends its whole budget or ends in done or no room

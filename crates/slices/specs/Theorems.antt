@@ -10,6 +10,7 @@ use native.Mathlib.Omega.{arith}
 use borrow.Author.Tests.{eq-eqb, eqb-true, not-false}
 use lib.Dec.{eqb}
 use lib.ListN.{length}
+use Rattle.lists.specs.Apart.{apart}
 use Rattle.lists.specs.Truth.{or-neither}
 use Rattle.diagrams.specs.Layout.{rootCount, rootAt}
 use Rattle.diagrams.specs.Lookup.{lookup}
@@ -18,15 +19,15 @@ use Rattle.orders.specs.Permutation.{Permutation, permutation-if, permutation-t
 use Rattle.orders.specs.Exchange.{length-exchange}
 use Rattle.orders.specs.Inversions.{left}
 use Rattle.orders.specs.Plans.{bringUp, bring-up-lawful, reached, left-zero}
-use Rattle.flaws.specs.Meaning.{Sizes, sizes-if, sizes-then}
-use Rattle.flaws.specs.Tests.{badSizes}
+use Rattle.check_records.specs.Meaning.{Sizes, sizes-if, sizes-then}
+use Rattle.check_records.specs.Tests.{badSizes}
 use Rattle.checks.specs.Stages as stages
 use Rattle.checks.specs.Stages.{AllPass, also, only-passed, passed-only, FailsFirst, clear-if, clear-only, refused-if, refused-only}
 use Rattle.checks.specs.Check.{tableStages, checkStages}
 use Rattle.checks.specs.Usable.{Usable, usable-if, usable-then, all-pass, passes-all}
 use Rattle.checks.specs.declared.Verdict as judged
 use Rattle.checks.specs.declared.Verdict.the-variants as verdict
-use Rattle.one_swap.specs.Swap.{xAt, yAt}
+use Rattle.swap_rules.specs.Swap.{xAt, yAt}
 use Rattle.swaps.specs.Outcome.{fitsIn, swapOf}
 use Rattle.swaps.specs.Bytes.{Needed, Free, fits-then, unfit-then, swap-usable, swap-root-value, swap-made, swap-lacks}
 use Rattle.swaps.specs.declared.Swapping.the-variants as swapping
@@ -64,9 +65,9 @@ run-refuses t r o g b k x f = ap (runJudged t r o g b) (refused-if (runStages t 
 
 answer-not-refused : {X : Type 0} (r : List ℕ) (m l : ℕ) (s : State) (v : Judgement) (k x : ℕ) → answerOf r m l s v ≡ Refused k x → X
 unfolding answerOf
-answer-not-refused r m l s done k x e = let z : _≡_ {A = ℕ} 0 1 = cc in absurd (omega arith)
-answer-not-refused r m l s (noRoom j) k x e = let z : _≡_ {A = ℕ} 0 1 = cc in absurd (omega arith)
-answer-not-refused r m l s paused k x e = let z : _≡_ {A = ℕ} 0 1 = cc in absurd (omega arith)
+answer-not-refused r m l s done k x e = apart (cc)
+answer-not-refused r m l s (noRoom j) k x e = apart (cc)
+answer-not-refused r m l s paused k x e = apart (cc)
 
 ran-not-refused : {X : Type 0} (r : List ℕ) (w : over.SliceOf State) (k x : ℕ) → ranTo r w .answer ≡ Refused k x → X
 unfolding ranTo
@@ -110,20 +111,20 @@ answer-left r m l s paused = refl
 answer-done : (r : List ℕ) (m l : ℕ) (s : State) (v : Judgement) (i j : ℕ) → answerOf r m l s v ≡ Done i j → (v ≡ done) × (i ≡ m) × (j ≡ l)
 unfolding answerOf
 answer-done r m l s done i j e = (refl, (cc), (cc))
-answer-done r m l s (noRoom k) i j e = let z : _≡_ {A = ℕ} 0 1 = cc in absurd (omega arith)
-answer-done r m l s paused i j e = let z : _≡_ {A = ℕ} 0 1 = cc in absurd (omega arith)
+answer-done r m l s (noRoom k) i j e = apart (cc)
+answer-done r m l s paused i j e = apart (cc)
 
 answer-paused : (r : List ℕ) (m l : ℕ) (s : State) (v : Judgement) (i j : ℕ) → answerOf r m l s v ≡ Paused i j → (v ≡ paused) × (i ≡ m) × (j ≡ l)
 unfolding answerOf
-answer-paused r m l s done i j e = let z : _≡_ {A = ℕ} 0 1 = cc in absurd (omega arith)
-answer-paused r m l s (noRoom k) i j e = let z : _≡_ {A = ℕ} 0 1 = cc in absurd (omega arith)
+answer-paused r m l s done i j e = apart (cc)
+answer-paused r m l s (noRoom k) i j e = apart (cc)
 answer-paused r m l s paused i j e = (refl, (cc), (cc))
 
 answer-no-room : (r : List ℕ) (m l : ℕ) (s : State) (v : Judgement) (i j k n f : ℕ) → answerOf r m l s v ≡ NoRoom i j k n f
     → (v ≡ noRoom k) × (n ≡ Needed (s .table) r (xAt (s .order) k) (yAt (s .order) k)) × (f ≡ Free (s .table) r (xAt (s .order) k) (yAt (s .order) k))
 unfolding answerOf
-answer-no-room r m l s done i j k n f e = let z : _≡_ {A = ℕ} 0 1 = cc in absurd (omega arith)
-answer-no-room r m l s paused i j k n f e = let z : _≡_ {A = ℕ} 0 1 = cc in absurd (omega arith)
+answer-no-room r m l s done i j k n f e = apart (cc)
+answer-no-room r m l s paused i j k n f e = apart (cc)
 answer-no-room r m l s (noRoom q) i j k n f e =
     let p : q ≡ k = cc in
     let a : Needed (s .table) r (xAt (s .order) q) (yAt (s .order) q) ≡ n = cc in

@@ -3,7 +3,7 @@ ghost use mathlib.Core.Path.{_≡_};
 ghost use Rattle.orders.specs.Arranged.{Arranged, bytesOf};
 ghost use Rattle.orders.specs.Plans.{bringUp};
 ghost use Rattle.orders.specs.Inversions.{left};
-ghost use Rattle.flaws.specs.Meaning.{Sized};
+ghost use Rattle.check_records.specs.Meaning.{Sized};
 ghost use Rattle.checks.specs.Stages as stages;
 ghost use Rattle.slices.specs.Slices as over;
 ghost use Rattle.slices.specs.Run.{badRunSizes, runStages, relay, answerOf, stateOf, Stepped, Driven, RunOutcome};

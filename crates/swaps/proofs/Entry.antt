@@ -23,16 +23,16 @@ use Rattle.orders.specs.Order.{loadOrder, exchangedOrder, Inverse}
 use Rattle.orders.specs.Load.{load-variables}
 use Rattle.orders.specs.Arranged.{bytesOf, Arranged, load-bytes, load-arranged, arranged-inverse, exchanged-bytes}
 use Rattle.orders.specs.declared.Order.{Order}
-use Rattle.flaws.specs.Meaning.{Sizes, Sized, sized, sizes-if}
+use Rattle.check_records.specs.Meaning.{Sizes, Sized, sized, sizes-if}
 use Rattle.checks.specs.Stages.{judge, clear-only, row-refuses, row-passes, place-refuses, place-passes}
 use Rattle.checks.specs.Check.{checkStages}
 use Rattle.checks.specs.Usable.{Passes, passes-all}
 use Rattle.checks.specs.declared.Verdict.{Verdict}
 use Rattle.checks.specs.declared.Verdict.the-variants as verdict
 use Rattle.diagrams.specs.Edition.{plain}
-use Rattle.one_swap.specs.Swap.{xAt, yAt, needed, freeCount, after, swapped}
-use Rattle.reckoning.specs.Reckoning.{News, namesOf, rewritten}
-use Rattle.reckoning.specs.Reckoned.{Reckoned, needed-is, free-count-is, fits-is, rewritten-is}
+use Rattle.swap_rules.specs.Swap.{xAt, yAt, needed, freeCount, after, swapped}
+use Rattle.swap_reckoning.specs.Reckoning.{News, namesOf, rewritten}
+use Rattle.swap_reckoning.specs.Reckoned.{Reckoned, needed-is, free-count-is, fits-is, rewritten-is}
 use Rattle.swaps.specs.Bytes.{length-decode}
 use Rattle.swaps.specs.Outcome.{room-fits, room-lacks, fitsIn, roomOf, tableAfter, Prepared, RoomOutcome, noLevel, swapStages, swapAfter, swapJudged, swapOf}
 use Rattle.swaps.specs.declared.Room.{Room}

@@ -12,15 +12,15 @@ use Rattle.diagrams.specs.Layout.{recordSize, mostRecords, records}
 use Rattle.diagrams.specs.Node.{Node, at}
 use Rattle.diagrams.specs.Decode.{decode}
 use Rattle.diagrams.specs.Lookup.{rootsOf}
-use Rattle.flaws.specs.Meaning.{Sizes, sizes-if}
+use Rattle.check_records.specs.Meaning.{Sizes, sizes-if}
 use Rattle.checks.specs.Stages.{AllPass, also, stageAt, judge, passed-only, clear-only}
 use Rattle.checks.specs.Check.{checkStages}
 use Rattle.checks.specs.Theorems.{Bounded, refusal-small}
 use Rattle.checks.specs.declared.Verdict.{Verdict}
 use Rattle.checks.specs.declared.Verdict.the-variants as verdict
 use Rattle.diagrams.specs.Edition.{plain}
-use Rattle.one_swap.specs.Record.{isFreeNode, same}
-use Rattle.one_swap.specs.Swap.{xAt, yAt, bothAsked, crossing, isNew, wanted, news, needed, freeCount}
+use Rattle.swap_rules.specs.Record.{isFreeNode, same}
+use Rattle.swap_rules.specs.Swap.{xAt, yAt, bothAsked, crossing, isNew, wanted, news, needed, freeCount}
 use Rattle.swaps.specs.Outcome.{fitsIn, roomOf, noLevel, swapStages, swapAfter, swapJudged, swapOf, numbers}
 use Rattle.swaps.specs.declared.Room.the-variants as room
 

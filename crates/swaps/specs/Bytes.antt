@@ -7,6 +7,7 @@ use mathlib.Core.Logic.{inl, inr}
 use mathlib.Core.Path.{_≡_, refl, ap, sym, _∙_}
 use lib.ListN.{length, getD, take, drop, List·getD-eq-default}
 use borrow.Author.Tests.{leb-true, leb-false, le-leb, lt-leb}
+use Rattle.lists.specs.Apart.{apart}
 use Rattle.lists.specs.Says.{either-side, denies, says-leb}
 use Rattle.lists.specs.Total.{count-agrees}
 use Rattle.lists.specs.Tabulate.{length-tabulate, getD-tabulate}
@@ -31,10 +32,10 @@ use Rattle.checks.specs.declared.Verdict.{Verdict}
 use Rattle.checks.specs.declared.Verdict.the-variants as verdict
 use Rattle.checks.specs.declared.Answer.the-variants.{Accepted}
 use Rattle.diagrams.specs.Edition.{plain}
-use Rattle.one_swap.specs.Record.{isUsedNode, isFreeNode, Behind, behind}
-use Rattle.one_swap.specs.Swap.{xAt, yAt, crosses, dies, needed, freeCount, fits, filled, dying, usedCount, swapped}
-use Rattle.one_swap.specs.Stored.{plain-written, length-swapped}
-use Rattle.one_swap.specs.Theorem.{Cofactors, swap-diagram, swap-bryant, swap-root, swap-reads, swap-else, swap-count, cofactors}
+use Rattle.swap_rules.specs.Record.{isUsedNode, isFreeNode, Behind, behind}
+use Rattle.swap_rules.specs.Swap.{xAt, yAt, crosses, dies, needed, freeCount, fits, filled, dying, usedCount, swapped}
+use Rattle.swap_rules.specs.Stored.{plain-written, length-swapped}
+use Rattle.swap_rules.specs.Theorem.{Cofactors, swap-diagram, swap-bryant, swap-root, swap-reads, swap-else, swap-count, cofactors}
 use Rattle.swaps.specs.Outcome.{fitsIn, roomOf, room-fits, room-lacks, tableAfter, noLevel, swapStages, Swapped, swapAfter, swapJudged, swapOf, SwapOutcome}
 use Rattle.swaps.specs.declared.Room.{Room}
 use Rattle.swaps.specs.declared.Room.the-variants as room
@@ -288,25 +289,25 @@ module _ (t r o : List ℕ) (k : ℕ) where
   pub made-only : swapOf t r o k .answer ≡ Made → (Usable t r o × (k + 1 < length o)) × (fitsIn t r (xAt o k) (yAt o k) ≡ true)
   unfolding swapOf
   made-only e =
-      let c : judge (swapStages t r o k) ≡ verdict.Clear = passed Made e (λ n p q. let z : _≡_ {A = ℕ} 0 1 = cc in absurd (omega arith)) in
+      let c : judge (swapStages t r o k) ≡ verdict.Clear = passed Made e (λ n p q. apart (cc)) in
       (swap-starts (clear-only (swapStages t r o k) c), fits-if t r (xAt o k) (yAt o k) (room-made-only t r (xAt o k) (yAt o k) (go (roomOf t r (xAt o k) (yAt o k)) (rw c at e))))
     where
       go : (a : Room) → swapAfter t r o k a .answer ≡ Made → a ≡ room.Made
       go room.Made q = refl
-      go (room.NoRoom n f) q = let z : _≡_ {A = ℕ} 0 1 = cc in absurd (omega arith)
+      go (room.NoRoom n f) q = apart (cc)
 
   pub lacks-only : (j n f : ℕ) → swapOf t r o k .answer ≡ NoRoom j n f
       → (Usable t r o × (k + 1 < length o)) × (Free t r (xAt o k) (yAt o k) < Needed t r (xAt o k) (yAt o k))
       × (j ≡ k) × (n ≡ Needed t r (xAt o k) (yAt o k)) × (f ≡ Free t r (xAt o k) (yAt o k))
   unfolding swapOf
   lacks-only j n f e =
-      let c : judge (swapStages t r o k) ≡ verdict.Clear = passed (NoRoom j n f) e (λ m p q. let z : _≡_ {A = ℕ} 0 1 = cc in absurd (omega arith)) in
+      let c : judge (swapStages t r o k) ≡ verdict.Clear = passed (NoRoom j n f) e (λ m p q. apart (cc)) in
       let w = go (roomOf t r (xAt o k) (yAt o k)) (rw c at e) in
       let l = no-room-only t r (xAt o k) (yAt o k) n f (w .1) in
       (swap-starts (clear-only (swapStages t r o k) c), l .0, w .0, l .1, l .2)
     where
       go : (a : Room) → swapAfter t r o k a .answer ≡ NoRoom j n f → (j ≡ k) × (a ≡ room.NoRoom n f)
-      go room.Made q = let z : _≡_ {A = ℕ} 0 1 = cc in absurd (omega arith)
+      go room.Made q = apart (cc)
       go (room.NoRoom m g) q = let a : m ≡ n = cc in let b : g ≡ f = cc in ((cc), rw (a, b))
 
   -- so a made swap leaves an accepted table under the exchanged order, and every root's values
@@ -335,8 +336,8 @@ unfolding swapOf
 swap-refuses-only t r o k n p e = refused-only (swapStages t r o k) n p (go (judge (swapStages t r o k)) e)
   where
     room-answers : (a : Room) → swapAfter t r o k a .answer ≡ Refused n p → verdict.Clear ≡ verdict.Refused n p
-    room-answers room.Made e = let z : _≡_ {A = ℕ} 0 1 = cc in absurd (omega arith)
-    room-answers (room.NoRoom a b) e = let z : _≡_ {A = ℕ} 0 1 = cc in absurd (omega arith)
+    room-answers room.Made e = apart (cc)
+    room-answers (room.NoRoom a b) e = apart (cc)
 
     go : (v : Verdict) → swapJudged t r o k v .answer ≡ Refused n p → v ≡ verdict.Refused n p
     go verdict.Clear e = room-answers (roomOf t r (xAt o k) (yAt o k)) e

@@ -6,6 +6,7 @@ use mathlib.Core.Path.{_≡_, refl}
 use native.Mathlib.Omega.{arith}
 use lib.Dec.{leb}
 use lib.ListN.{length, take}
+use Rattle.lists.specs.Apart.{apart}
 use Rattle.orders.specs.Exchange.{exchange}
 use Rattle.diagrams.specs.Layout.{records}
 use Rattle.diagrams.specs.Node.{at}
@@ -16,7 +17,7 @@ use Rattle.checks.specs.Check.{checkStages}
 use Rattle.checks.specs.declared.Verdict.{Verdict}
 use Rattle.checks.specs.declared.Verdict.the-variants as verdict
 use Rattle.diagrams.specs.Edition.{plain}
-use Rattle.one_swap.specs.Swap.{xAt, yAt, needed, freeCount, fits, swapped}
+use Rattle.swap_rules.specs.Swap.{xAt, yAt, needed, freeCount, fits, swapped}
 use Rattle.swaps.specs.declared.Room.{Room}
 use Rattle.swaps.specs.declared.Room.the-variants as room
 use Rattle.swaps.specs.declared.Swapping.{Swapping}
@@ -95,7 +96,7 @@ module _ (t r : List ℕ) (x y : ℕ) where
     where
       go : (b : Bool) → room.Made ≡ cond b room.Made lacking → b ≡ true
       go true q = refl
-      go false q = let z : _≡_ {A = ℕ} 0 1 = cc in absurd (omega arith)
+      go false q = apart (cc)
 
   pub room-lacks : (n f : ℕ) → room.NoRoom n f ≡ roomOf t r x y
       → (fitsIn t r x y ≡ false) × (n ≡ needed plain (at (decode t)) (records t) x y (rootsOf r)) × (f ≡ freeCount plain (at (decode t)) (records t) x y (rootsOf r))
@@ -104,5 +105,5 @@ module _ (t r : List ℕ) (x y : ℕ) where
     where
       go : (b : Bool) → room.NoRoom n f ≡ cond b room.Made lacking
           → (b ≡ false) × (n ≡ needed plain (at (decode t)) (records t) x y (rootsOf r)) × (f ≡ freeCount plain (at (decode t)) (records t) x y (rootsOf r))
-      go true q = let z : _≡_ {A = ℕ} 0 1 = cc in absurd (omega arith)
+      go true q = apart (cc)
       go false q = (refl, (cc), (cc))

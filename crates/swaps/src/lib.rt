@@ -4,17 +4,17 @@ ghost use mathlib.Core.Path.{_≡_};
 ghost use Prim.Native.Nat.{_*_, _≤_, _<_};
 ghost use lib.ListN.{length, take};
 ghost use Rattle.diagrams.specs.Layout.{mostRecords, recordSize};
-ghost use Rattle.flaws.specs.Meaning.{Sized};
+ghost use Rattle.check_records.specs.Meaning.{Sized};
 ghost use Rattle.swaps.specs.Outcome.{roomOf, Prepared, RoomOutcome, SwapOutcome};
 use checks::Verdict;
 use diagrams::MOST_RECORDS;
 use diagrams::RECORD_SIZE;
 use diagrams::Variable;
-use image::Numbers;
-use kinds::collect;
 use orders::Order;
-use reckoning::names;
-use reckoning::news;
+use swap_reckoning::names;
+use swap_reckoning::news;
+use swap_records::collect;
+use swap_result::Numbers;
 
 // Was there room for a swap?
 pub enum Room {
@@ -76,7 +76,7 @@ fn prepare(table: &[u8], roots: &[u8], x: Variable, y: Variable, image: &mut [u8
         needed,
         free,
     };
-    image::rewrite(
+    swap_result::rewrite(
         table,
         &crossing,
         &standing,

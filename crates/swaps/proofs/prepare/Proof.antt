@@ -1,7 +1,7 @@
 use native.Mathlib.Omega.{arith}
 use borrow.Author.Needs.{needs}
-use Rattle.kinds.specs.Inside.{inside-of, in-use}
-use Rattle.reckoning.specs.Reckoned.{reckoned}
+use Rattle.swap_records.specs.Inside.{inside-of, in-use}
+use Rattle.swap_reckoning.specs.Reckoned.{reckoned}
 use Rattle.swaps.proofs.Entry.{prepared-none, prepared-made}
 use Rattle.swaps.proofs.prepare.Statement.{statement}
 use Rattle.swaps.proofs.prepare.Tie as tie

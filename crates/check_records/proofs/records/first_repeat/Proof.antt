@@ -1,0 +1,19 @@
+use Prim.Native.Nat.{_-_}
+use Rattle.lists.specs.First.{Scan, scan}
+use Rattle.check_records.specs.Tests.{repeats}
+use Rattle.check_records.proofs.records.first_repeat.Statement.{statement}
+use Rattle.check_records.proofs.records.first_repeat.Tie as tie
+
+pub first-repeat-spec : {M : Type 1} → statement M
+first-repeat-spec =
+    tie.close
+    (tie.spec
+    (λ table m i₀ i. Scan (repeats table) m i)
+    (λ table m i₀ i. m - i)
+    (λ c. search scan)
+    (λ c κs. search scan)
+    (λ c. search scan)
+    (λ c. search scan)
+    (λ c. search scan)
+    (λ c. search scan)
+    (λ c. search scan))
