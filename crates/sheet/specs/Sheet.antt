@@ -12,8 +12,8 @@ use Rattle.diagrams.specs.Decode.{nodeAt, decode, eight, encode}
 use Rattle.diagrams.specs.Lookup.{rootsOf}
 use Rattle.orders.specs.Permutation.{holdsAt, badPlace, levelOf}
 use Rattle.orders.specs.Exchange.{exchange}
-use Rattle.orders.specs.Inversions.{inverted, left}
-use Rattle.orders.specs.Plans.{differsAt, same?, bringUp, nearest}
+use Rattle.plans.specs.Inversions.{inverted, left}
+use Rattle.plans.specs.Plans.{differsAt, same?, bringUp, nearest}
 use Rattle.check_records.specs.Tests.{badSizes, dead, malformed, notUnder, notBelow, lowIsHigh, sameRecord, repeats, deadRoot, rootNames, recordNames, idle}
 use Rattle.checks.specs.Stages.{only, judged}
 use Rattle.checks.specs.Check.{tableStages, used}

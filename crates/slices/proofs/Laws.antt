@@ -14,8 +14,9 @@ use Rattle.lists.specs.Truth.{or-neither}
 use Rattle.orders.specs.Permutation.{ceiling, Permutation}
 use Rattle.orders.specs.Exchange.{exchange}
 use Rattle.orders.specs.Order.{loadOrder, exchangedOrder, Inverse}
-use Rattle.orders.specs.Inversions.{left, Adjacent}
-use Rattle.orders.specs.Plans.{same?, bringUp, bring-up-lawful}
+use Rattle.plans.specs.Inversions.{left, Adjacent}
+use Rattle.plans.specs.Plans.{same?}
+use Rattle.plans.specs.BringUp.{bringUp, bring-up-lawful}
 use Rattle.orders.specs.Arranged.{bytesOf, Arranged, load-bytes, load-arranged, arranged-length, arranged-inverse, exchanged-arranged, exchanged-bytes, arranged-adjacent}
 use Rattle.orders.specs.declared.Order.{Order}
 use Rattle.check_records.specs.Meaning.{Sized, sized}

@@ -9,8 +9,8 @@ use Rattle.lists.specs.Total.{total, pairs}
 use Rattle.lists.specs.Tabulate.{tabulate}
 use Rattle.orders.specs.Permutation.{levelOf, holdsAt}
 use Rattle.orders.specs.Exchange.{exchange}
-use Rattle.orders.specs.Inversions.{left, inverted}
-use Rattle.orders.specs.Plans.{bringUp, nearest, same?, differsAt}
+use Rattle.plans.specs.Inversions.{left, inverted}
+use Rattle.plans.specs.Plans.{bringUp, nearest, same?, differsAt}
 use Rattle.slices.specs.Slices.{Relay, arrived, next, goes, made}
 
 -- an order alone, where every swap fits

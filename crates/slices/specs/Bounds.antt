@@ -8,8 +8,8 @@ use lib.ListN.{length}
 use Rattle.lists.specs.Below.{Below}
 use Rattle.diagrams.specs.Layout.{mostRecords}
 use Rattle.orders.specs.Permutation.{ceiling}
-use Rattle.orders.specs.Inversions.{left, left-small}
-use Rattle.orders.specs.Plans.{bringUp, bring-up-within}
+use Rattle.plans.specs.Inversions.{left, left-small}
+use Rattle.plans.specs.Plans.{bringUp, bring-up-within}
 use Rattle.check_records.specs.Meaning.{Sizes}
 use Rattle.checks.specs.Stages as stages
 use Rattle.checks.specs.Stages.{FailsFirst, here, later, passed-only, clear-only, refused-only}

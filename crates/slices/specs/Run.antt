@@ -10,7 +10,7 @@ use Rattle.diagrams.specs.Node.{at}
 use Rattle.diagrams.specs.Decode.{decode}
 use Rattle.diagrams.specs.Lookup.{rootsOf}
 use Rattle.orders.specs.Exchange.{exchange}
-use Rattle.orders.specs.Plans.{bringUp}
+use Rattle.plans.specs.BringUp.{bringUp}
 use Rattle.orders.specs.Arranged.{bytesOf, Arranged}
 use Rattle.orders.specs.declared.Order.{Order}
 use Rattle.check_records.specs.Tests.{badSizes}

@@ -14,8 +14,8 @@ use Rattle.lists.specs.Says.{Says, true-false, refutes}
 use Rattle.lists.specs.Truth.{and-left, and-right}
 use Rattle.orders.specs.Permutation.{Permutation}
 use Rattle.orders.specs.Exchange.{exchange}
-use Rattle.orders.specs.Inversions.{left, Adjacent, left-same, left-exchange}
-use Rattle.orders.specs.Plans.{Plan, Lawful, same?, reached, same-says, left-zero}
+use Rattle.plans.specs.Inversions.{left, Adjacent, left-same, left-exchange}
+use Rattle.plans.specs.Plans.{Plan, Lawful, same?, reached, same-says, left-zero}
 
 -- what a slice drives: a state with an order, where a swap of levels k and k + 1 fits or doesn't, and the state that it leaves
 pub record Relay (State : Type 0) : Type 0 where

@@ -17,8 +17,8 @@ use Rattle.diagrams.specs.Lookup.{lookup}
 use Rattle.diagrams.specs.Value.{value}
 use Rattle.orders.specs.Permutation.{Permutation, permutation-if, permutation-then}
 use Rattle.orders.specs.Exchange.{length-exchange}
-use Rattle.orders.specs.Inversions.{left}
-use Rattle.orders.specs.Plans.{bringUp, bring-up-lawful, reached, left-zero}
+use Rattle.plans.specs.Inversions.{left}
+use Rattle.plans.specs.Plans.{bringUp, bring-up-lawful, reached, left-zero}
 use Rattle.check_records.specs.Meaning.{Sizes, sizes-if, sizes-then}
 use Rattle.check_records.specs.Tests.{badSizes}
 use Rattle.checks.specs.Stages as stages

@@ -1,8 +1,8 @@
 // Run one slice of planned swaps towards a target order.
 ghost use mathlib.Core.Path.{_≡_};
 ghost use Rattle.orders.specs.Arranged.{Arranged, bytesOf};
-ghost use Rattle.orders.specs.Plans.{bringUp};
-ghost use Rattle.orders.specs.Inversions.{left};
+ghost use Rattle.plans.specs.BringUp.{bringUp};
+ghost use Rattle.plans.specs.Inversions.{left};
 ghost use Rattle.check_records.specs.Meaning.{Sized};
 ghost use Rattle.checks.specs.Stages as stages;
 ghost use Rattle.slices.specs.Slices as over;

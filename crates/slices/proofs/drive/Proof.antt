@@ -4,7 +4,7 @@ use native.Mathlib.Omega.{arith}
 use borrow.Author.Needs.{needs}
 use lib.ListN.{length}
 use Rattle.orders.specs.Arranged.{bytesOf, Arranged}
-use Rattle.orders.specs.Plans.{bringUp}
+use Rattle.plans.specs.BringUp.{bringUp}
 use Rattle.slices.specs.Slices as over
 use Rattle.slices.specs.Run.{relay, stateOf}
 use Rattle.slices.proofs.Laws.{same-sizes, drive-rests, drive-goes, drive-ends}

@@ -1,0 +1,4 @@
+pub mod Inversions
+pub mod Plans
+pub mod BringUp
+pub mod Towards
