@@ -14,18 +14,17 @@ use Rattle.orders.specs.Plans.{bringUp}
 use Rattle.orders.specs.Arranged.{bytesOf, Arranged}
 use Rattle.orders.specs.declared.Order.{Order}
 use Rattle.check_records.specs.Tests.{badSizes}
-use Rattle.checks.specs.Stages as stages
-use Rattle.checks.specs.Stages.{Stage, stageAt}
+use Rattle.checks.specs.Stages.{Stage, stageAt, verdictOf}
 use Rattle.checks.specs.Check.{orderStage, tableStages}
-use Rattle.checks.specs.declared.Verdict as judged
+use Rattle.checks.specs.declared.Verdict.{Verdict}
 use Rattle.checks.specs.declared.Verdict.the-variants as verdict
 use Rattle.diagrams.specs.Edition.{plain}
 use Rattle.swap_rules.specs.Swap.{xAt, yAt, needed, freeCount}
 use Rattle.swaps.specs.Outcome.{fitsIn, tableAfter}
 use Rattle.slices.specs.Slices as over
 use Rattle.slices.specs.Slices.{Relay, Judgement, done, noRoom, paused}
-use Rattle.slices.specs.declared.Slice.{Slice}
-use Rattle.slices.specs.declared.Slice.the-variants.{Done, NoRoom, Paused, Refused}
+use Rattle.slices.specs.declared.RunAnswer.{RunAnswer}
+use Rattle.slices.specs.declared.RunAnswer.the-variants.{Done, NoRoom, Paused, Refused}
 use Rattle.slices.specs.declared.Turn.{Turn}
 use Rattle.slices.specs.declared.Reached.{Reached}
 
@@ -49,7 +48,7 @@ unfoldable pub runStages : List ℕ → List ℕ → List ℕ → List ℕ → L
 runStages t r o g = stageAt 1 0 (badRunSizes t r o g) ∷ orderStage 2 o ∷ orderStage 3 g ∷ tableStages t r o
 
 -- ---- the answer, judged on the state left
-unfoldable pub answerOf : List ℕ → ℕ → ℕ → State → Judgement → Slice
+unfoldable pub answerOf : List ℕ → ℕ → ℕ → State → Judgement → RunAnswer
 answerOf r swaps left s done = Done swaps left
 answerOf r swaps left s (noRoom k) =
     NoRoom swaps left k
@@ -59,30 +58,30 @@ answerOf r swaps left s paused = Paused swaps left
 
 -- the answer and every buffer that is lent for writing
 pub record Ran : Type 0 where
-  pub answer : Slice
+  pub answer : RunAnswer
   pub table : List ℕ
   pub order : List ℕ
 
 unfoldable pub ranTo : List ℕ → over.SliceOf State → Ran
 ranTo r w = record { answer = answerOf r (w .swaps) (w .left) (w .state) (w .judgement); table = w .state .table; order = w .state .order }
 
-abbrev pub runJudged : List ℕ → List ℕ → List ℕ → List ℕ → ℕ → judged.Verdict → Ran
+abbrev pub runJudged : List ℕ → List ℕ → List ℕ → List ℕ → ℕ → Verdict → Ran
 runJudged t r o g budget verdict.Clear = ranTo r (over.slice (relay r) bringUp g budget (record { table = t; order = o }))
-runJudged t r o g budget (verdict.Refused number place) = record { answer = Refused number place; table = t; order = o }
+runJudged t r o g budget (verdict.Refused w) = record { answer = Refused w; table = t; order = o }
 
 unfoldable pub runOf : List ℕ → List ℕ → List ℕ → List ℕ → ℕ → Ran
-runOf t r o g budget = runJudged t r o g budget (stages.judge (runStages t r o g))
+runOf t r o g budget = runJudged t r o g budget (verdictOf (runStages t r o g))
 
 -- what Run may answer, and leave in the buffers
-abbrev pub RunOutcome : List ℕ → List ℕ → List ℕ → List ℕ → ℕ → Slice → List ℕ → List ℕ → Type 0
+abbrev pub RunOutcome : List ℕ → List ℕ → List ℕ → List ℕ → ℕ → RunAnswer → List ℕ → List ℕ → Type 0
 RunOutcome t r o g budget a t′ o′ = record { answer = a; table = t′; order = o′ } ≡ runOf t r o g budget
 
 -- the paper's number and values of each answer; 0 stands for done, 100 for no room and 101 for paused
-abbrev pub numbers : Slice → List ℕ
+abbrev pub numbers : RunAnswer → List ℕ
 numbers (Done swaps left) = 0 ∷ swaps ∷ left ∷ []
 numbers (NoRoom swaps left level needed free) = 100 ∷ swaps ∷ left ∷ level ∷ needed ∷ free ∷ []
 numbers (Paused swaps left) = 101 ∷ swaps ∷ left ∷ []
-numbers (Refused number place) = number ∷ place ∷ []
+numbers (Refused w) = w .number ∷ w .place ∷ []
 
 -- ---- how the code goes: one step, and a loop of steps
 

@@ -21,22 +21,22 @@ use Rattle.orders.specs.Inversions.{left}
 use Rattle.orders.specs.Plans.{bringUp, bring-up-lawful, reached, left-zero}
 use Rattle.check_records.specs.Meaning.{Sizes, sizes-if, sizes-then}
 use Rattle.check_records.specs.Tests.{badSizes}
-use Rattle.checks.specs.Stages as stages
-use Rattle.checks.specs.Stages.{AllPass, also, only-passed, passed-only, FailsFirst, clear-if, clear-only, refused-if, refused-only}
+use Rattle.checks.specs.Stages.{refusal, verdictOf, AllPass, also, only-passed, passed-only, FailsFirst, clear-if, clear-only, refused-if, refused-only}
 use Rattle.checks.specs.Check.{tableStages, checkStages}
 use Rattle.checks.specs.Usable.{Usable, usable-if, usable-then, all-pass, passes-all}
-use Rattle.checks.specs.declared.Verdict as judged
+use Rattle.checks.specs.declared.Refusal.{Refusal}
+use Rattle.checks.specs.declared.Verdict.{Verdict}
 use Rattle.checks.specs.declared.Verdict.the-variants as verdict
 use Rattle.swap_rules.specs.Swap.{xAt, yAt}
 use Rattle.swaps.specs.Outcome.{fitsIn, swapOf}
 use Rattle.swaps.specs.Bytes.{Needed, Free, fits-then, unfit-then, swap-usable, swap-root-value, swap-made, swap-lacks}
-use Rattle.swaps.specs.declared.Swapping.the-variants as swapping
-use Rattle.swaps.specs.declared.Swapping.the-variants.{Made}
+use Rattle.swaps.specs.declared.SwapAnswer.the-variants as swapping
+use Rattle.swaps.specs.declared.SwapAnswer.the-variants.{Made}
 use Rattle.slices.specs.Slices as over
 use Rattle.slices.specs.Slices.{Relay, RelayLaws, Judgement, done, noRoom, paused}
 use Rattle.slices.specs.Run.{State, relay, badRunSizes, runStages, answerOf, Ran, ranTo, runJudged, runOf, RunOutcome}
-use Rattle.slices.specs.declared.Slice.{Slice}
-use Rattle.slices.specs.declared.Slice.the-variants.{Done, NoRoom, Paused, Refused}
+use Rattle.slices.specs.declared.RunAnswer.{RunAnswer}
+use Rattle.slices.specs.declared.RunAnswer.the-variants.{Done, NoRoom, Paused, Refused}
 
 -- ---- the state that a slice drives obeys the laws of a relay
 
@@ -55,46 +55,46 @@ relay-laws r n = record {
 
 -- ---- one outcome for each input
 
-pub run-one : (t r o g : List ℕ) (b : ℕ) {a a′ : Slice} {t₁ t₂ o₁ o₂ : List ℕ} → RunOutcome t r o g b a t₁ o₁ → RunOutcome t r o g b a′ t₂ o₂ → (a ≡ a′) × (t₁ ≡ t₂) × (o₁ ≡ o₂)
+pub run-one : (t r o g : List ℕ) (b : ℕ) {a a′ : RunAnswer} {t₁ t₂ o₁ o₂ : List ℕ} → RunOutcome t r o g b a t₁ o₁ → RunOutcome t r o g b a′ t₂ o₂ → (a ≡ a′) × (t₁ ≡ t₂) × (o₁ ≡ o₂)
 run-one t r o g b p q = (ap (λ (s : Ran). s .answer) (p ∙ sym q), ap (λ (s : Ran). s .table) (p ∙ sym q), ap (λ (s : Ran). s .order) (p ∙ sym q))
 
 -- Run refuses with k at x exactly where check k fails at x, at no place before it, and every earlier check passes everywhere; it changes nothing then
-pub run-refuses : (t r o g : List ℕ) (b k x : ℕ) → FailsFirst (runStages t r o g) k x → runOf t r o g b ≡ record { answer = Refused k x; table = t; order = o }
+pub run-refuses : (t r o g : List ℕ) (b k x : ℕ) → FailsFirst (runStages t r o g) k x → runOf t r o g b ≡ record { answer = Refused (refusal k x); table = t; order = o }
 unfolding runOf
 run-refuses t r o g b k x f = ap (runJudged t r o g b) (refused-if (runStages t r o g) k x f)
 
-answer-not-refused : {X : Type 0} (r : List ℕ) (m l : ℕ) (s : State) (v : Judgement) (k x : ℕ) → answerOf r m l s v ≡ Refused k x → X
+answer-not-refused : {X : Type 0} (r : List ℕ) (m l : ℕ) (s : State) (v : Judgement) (f : Refusal) → answerOf r m l s v ≡ Refused f → X
 unfolding answerOf
-answer-not-refused r m l s done k x e = apart (cc)
-answer-not-refused r m l s (noRoom j) k x e = apart (cc)
-answer-not-refused r m l s paused k x e = apart (cc)
+answer-not-refused r m l s done f e = apart (cc)
+answer-not-refused r m l s (noRoom j) f e = apart (cc)
+answer-not-refused r m l s paused f e = apart (cc)
 
-ran-not-refused : {X : Type 0} (r : List ℕ) (w : over.SliceOf State) (k x : ℕ) → ranTo r w .answer ≡ Refused k x → X
+ran-not-refused : {X : Type 0} (r : List ℕ) (w : over.SliceOf State) (f : Refusal) → ranTo r w .answer ≡ Refused f → X
 unfolding ranTo
-ran-not-refused r w k x e = answer-not-refused r (w .swaps) (w .left) (w .state) (w .judgement) k x e
+ran-not-refused r w f e = answer-not-refused r (w .swaps) (w .left) (w .state) (w .judgement) f e
 
-pub run-refuses-only : (t r o g : List ℕ) (b k x : ℕ) → runOf t r o g b .answer ≡ Refused k x → FailsFirst (runStages t r o g) k x
+pub run-refuses-only : (t r o g : List ℕ) (b k x : ℕ) → runOf t r o g b .answer ≡ Refused (refusal k x) → FailsFirst (runStages t r o g) k x
 unfolding runOf
-run-refuses-only t r o g b k x e = refused-only (runStages t r o g) k x (go (stages.judge (runStages t r o g)) e)
+run-refuses-only t r o g b k x e = refused-only (runStages t r o g) k x (go (verdictOf (runStages t r o g)) e)
   where
-    go : (v : judged.Verdict) → runJudged t r o g b v .answer ≡ Refused k x → v ≡ verdict.Refused k x
-    go verdict.Clear e = ran-not-refused r (over.slice (relay r) bringUp g b (record { table = t; order = o })) k x e
-    go (verdict.Refused j y) e = let p : j ≡ k = cc in let q : y ≡ x = cc in rw (p, q)
+    go : (v : Verdict) → runJudged t r o g b v .answer ≡ Refused (refusal k x) → v ≡ verdict.Refused (refusal k x)
+    go verdict.Clear e = ran-not-refused r (over.slice (relay r) bringUp g b (record { table = t; order = o })) (refusal k x) e
+    go (verdict.Refused f) e = cc
 
 -- ---- the numbers of an answer
 
 -- the swaps that an answer tells; a refusal has made none
-abbrev pub swapsIn : Slice → ℕ
+abbrev pub swapsIn : RunAnswer → ℕ
 swapsIn (Done swaps left) = swaps
 swapsIn (NoRoom swaps left level needed free) = swaps
 swapsIn (Paused swaps left) = swaps
-swapsIn (Refused number place) = 0
+swapsIn (Refused w) = 0
 
-abbrev pub leftIn : Slice → ℕ
+abbrev pub leftIn : RunAnswer → ℕ
 leftIn (Done swaps left) = left
 leftIn (NoRoom swaps left level needed free) = left
 leftIn (Paused swaps left) = left
-leftIn (Refused number place) = 0
+leftIn (Refused w) = 0
 
 answer-swaps : (r : List ℕ) (m l : ℕ) (s : State) (v : Judgement) → swapsIn (answerOf r m l s v) ≡ m
 unfolding answerOf
@@ -133,11 +133,11 @@ answer-no-room r m l s (noRoom q) i j k n f e =
 
 -- ---- two answers as one: the swaps add up, all else is the later one's
 
-abbrev pub more : ℕ → Slice → Slice
+abbrev pub more : ℕ → RunAnswer → RunAnswer
 more m (Done swaps left) = Done (m + swaps) left
 more m (NoRoom swaps left level needed free) = NoRoom (m + swaps) left level needed free
 more m (Paused swaps left) = Paused (m + swaps) left
-more m (Refused number place) = Refused number place
+more m (Refused w) = Refused w
 
 abbrev pub joined : Ran → Ran → Ran
 joined w v = record { answer = more (swapsIn (w .answer)) (v .answer); table = v .table; order = v .order }
@@ -187,7 +187,7 @@ module _ (t r o g : List ℕ) (usable : Usable t r o) (target : Permutation g) (
   unfolding badRunSizes
   sizes-pass = rw (sizes-then t r o (usable .sizes), eq-eqb (length g) (length o) long)
 
-  run-clear : stages.judge (runStages t r o g) ≡ verdict.Clear
+  run-clear : verdictOf (runStages t r o g) ≡ verdict.Clear
   unfolding runStages
   run-clear =
       clear-if _
@@ -329,9 +329,9 @@ module _ (t r o g : List ℕ) where
       (usable-if t r o (passes-all t r o (also (only-passed 0 (sizes-then t r o (w .0))) (also p rest))), permutation-if g q, w .1)
 
   -- a refused run changes nothing, and so is refused again, whatever the budget
-  run-again : (k x : ℕ) → stages.judge (runStages t r o g) ≡ verdict.Refused k x → (b : ℕ) → runOf t r o g b ≡ record { answer = Refused k x; table = t; order = o }
+  run-again : (f : Refusal) → verdictOf (runStages t r o g) ≡ verdict.Refused f → (b : ℕ) → runOf t r o g b ≡ record { answer = Refused f; table = t; order = o }
   unfolding runOf
-  run-again k x e b = ap (runJudged t r o g b) e
+  run-again f e b = ap (runJudged t r o g b) e
 
 -- ---- slices add up
 
@@ -362,11 +362,11 @@ module _ (t r o g : List ℕ) (usable : Usable t r o) (target : Permutation g) (
 
 -- two runs are one with the sum of their budgets, whatever the bytes
 pub run-add : (t r o g : List ℕ) (a b : ℕ) → joined (runOf t r o g a) (runOf (runOf t r o g a .table) r (runOf t r o g a .order) g b) ≡ runOf t r o g (a + b)
-run-add t r o g a b = go (stages.judge (runStages t r o g)) refl
+run-add t r o g a b = go (verdictOf (runStages t r o g)) refl
   where
-    go : (v : judged.Verdict) → stages.judge (runStages t r o g) ≡ v → joined (runOf t r o g a) (runOf (runOf t r o g a .table) r (runOf t r o g a .order) g b) ≡ runOf t r o g (a + b)
+    go : (v : Verdict) → verdictOf (runStages t r o g) ≡ v → joined (runOf t r o g a) (runOf (runOf t r o g a .table) r (runOf t r o g a .order) g b) ≡ runOf t r o g (a + b)
     go verdict.Clear e = let w = run-starts t r o g (clear-only (runStages t r o g) e) in add-usable t r o g (w .0) (w .1) (w .2) a b
-    go (verdict.Refused k x) e = rw (run-again t r o g k x e a, run-again t r o g k x e b, run-again t r o g k x e (a + b))
+    go (verdict.Refused f) e = rw (run-again t r o g f e a, run-again t r o g f e b, run-again t r o g f e (a + b))
 
 -- any number of runs are one with the sum of their budgets
 pub run-slices : (t r o g : List ℕ) (b : ℕ) (rest : List ℕ) → runsOf t r o g b rest ≡ runOf t r o g (b + foldr _+_ 0 rest)
