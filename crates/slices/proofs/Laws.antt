@@ -21,8 +21,8 @@ use Rattle.orders.specs.Arranged.{bytesOf, Arranged, load-bytes, load-arranged,
 use Rattle.orders.specs.declared.Order.{Order}
 use Rattle.check_records.specs.Meaning.{Sized, sized}
 use Rattle.check_records.specs.Tests.{badSizes}
-use Rattle.checks.specs.Stages as stages
-use Rattle.checks.specs.Stages.{clear-only, chain}
+use Rattle.checks.specs.Stages.{verdictOf, clear-only, chain}
+use Rattle.checks.specs.declared.Refusal.{Refusal}
 use Rattle.checks.specs.declared.Verdict.{Verdict}
 use Rattle.checks.specs.declared.Verdict.the-variants as verdict
 use Rattle.checks.specs.Usable.{Usable}
@@ -34,8 +34,8 @@ use Rattle.slices.specs.Slices as over
 use Rattle.slices.specs.Slices.{slicing-goes, slicing-rests, slicing-ends}
 use Rattle.slices.specs.Run.{State, relay, badRunSizes, runStages, answerOf, ranTo, runJudged, runOf, stateOf, Stepped, Driven}
 use Rattle.slices.specs.Theorems.{run-starts}
-use Rattle.slices.specs.declared.Slice.{Slice}
-use Rattle.slices.specs.declared.Slice.the-variants.{Done, NoRoom, Paused, Refused}
+use Rattle.slices.specs.declared.RunAnswer.{RunAnswer}
+use Rattle.slices.specs.declared.RunAnswer.the-variants.{Done, NoRoom, Paused, Refused}
 use Rattle.slices.specs.declared.Turn.{Turn}
 use Rattle.slices.specs.declared.Reached.{Reached}
 
@@ -170,13 +170,13 @@ ran-is : (r g : List ℕ) (budget : ℕ) (s x : State) (swaps : ℕ) → swaps �
 unfolding ranTo over.slice relay
 ran-is r g budget s x swaps e f = rw (e, f)
 
-module _ (t r o g : List ℕ) (budget : ℕ) {v : Verdict} (judged : v ≡ stages.judge (runStages t r o g)) where
+module _ (t r o g : List ℕ) (budget : ℕ) {v : Verdict} (judged : v ≡ verdictOf (runStages t r o g)) where
   run-by : {w : Verdict} → v ≡ w → runJudged t r o g budget w ≡ runOf t r o g budget
   unfolding runOf
   run-by e = ap (runJudged t r o g budget) (sym e ∙ judged)
 
-  pub run-refused : (k x : ℕ) → v ≡ verdict.Refused k x → record { answer = Refused k x; table = t; order = o } ≡ runOf t r o g budget
-  run-refused k x e = run-by e
+  pub run-refused : (f : Refusal) → v ≡ verdict.Refused f → record { answer = Refused f; table = t; order = o } ≡ runOf t r o g budget
+  run-refused f e = run-by e
 
   module _ (clear : v ≡ verdict.Clear) where
     starts : Usable t r o × Permutation g × (length g ≡ length o)
@@ -211,7 +211,7 @@ module _ (t r o g : List ℕ) (budget : ℕ) {v : Verdict} (judged : v ≡ stage
         start-bytes : bytesOf start (length o) ≡ o
         start-bytes = rw start-is (load-bytes o (starts .0 .sizes .few-variables))
 
-        pub run-ran : {end : Reached} {t′ o′ : List ℕ} {a : Slice} → Driven t r start goal (length o) budget end t′ → o′ ≡ bytesOf (end .order) (length o)
+        pub run-ran : {end : Reached} {t′ o′ : List ℕ} {a : RunAnswer} → Driven t r start goal (length o) budget end t′ → o′ ≡ bytesOf (end .order) (length o)
             → a ≡ answerOf r (end .swaps) (left (bytesOf (end .order) (length o)) (bytesOf goal (length o))) (stateOf t′ (end .order) (length o)) (over.judge (relay r) bringUp (bytesOf goal (length o)) (stateOf t′ (end .order) (length o)))
             → record { answer = a; table = t′; order = o′ } ≡ runOf t r o g budget
         run-ran {end} {t′} {o′} {a} d p q =

@@ -24,9 +24,10 @@ use Rattle.orders.specs.Load.{load-variables}
 use Rattle.orders.specs.Arranged.{bytesOf, Arranged, load-bytes, load-arranged, arranged-inverse, exchanged-bytes}
 use Rattle.orders.specs.declared.Order.{Order}
 use Rattle.check_records.specs.Meaning.{Sizes, Sized, sized, sizes-if}
-use Rattle.checks.specs.Stages.{judge, clear-only, row-refuses, row-passes, place-refuses, place-passes}
+use Rattle.checks.specs.Stages.{refusal, verdictOf, clear-only, row-refuses, row-passes, place-refuses, place-passes}
 use Rattle.checks.specs.Check.{checkStages}
 use Rattle.checks.specs.Usable.{Passes, passes-all}
+use Rattle.checks.specs.declared.Refusal.{Refusal}
 use Rattle.checks.specs.declared.Verdict.{Verdict}
 use Rattle.checks.specs.declared.Verdict.the-variants as verdict
 use Rattle.diagrams.specs.Edition.{plain}
@@ -37,7 +38,7 @@ use Rattle.swaps.specs.Bytes.{length-decode}
 use Rattle.swaps.specs.Outcome.{room-fits, room-lacks, fitsIn, roomOf, tableAfter, Prepared, RoomOutcome, noLevel, swapStages, swapAfter, swapJudged, swapOf}
 use Rattle.swaps.specs.declared.Room.{Room}
 use Rattle.swaps.specs.declared.Room.the-variants as room
-use Rattle.swaps.specs.declared.Swapping.the-variants.{Made, NoRoom, Refused}
+use Rattle.swaps.specs.declared.SwapAnswer.the-variants.{Made, NoRoom, Refused}
 
 -- ---- the work area
 
@@ -106,14 +107,14 @@ module _ (t r : List ℕ) (x y : ℕ) where
 
 -- ---- the entry
 
-module _ (t r o : List ℕ) (k : ℕ) {v : Verdict} (judged : v ≡ judge (checkStages t r o)) where
-  swap-by : {w : Verdict} → w ≡ judge (swapStages t r o k) → swapJudged t r o k w ≡ swapOf t r o k
+module _ (t r o : List ℕ) (k : ℕ) {v : Verdict} (judged : v ≡ verdictOf (checkStages t r o)) where
+  swap-by : {w : Verdict} → w ≡ verdictOf (swapStages t r o k) → swapJudged t r o k w ≡ swapOf t r o k
   unfolding swapOf
   swap-by e = ap (swapJudged t r o k) e
 
-  pub swap-refused : (n x : ℕ) → v ≡ verdict.Refused n x → record { answer = Refused n x; table = t; order = o } ≡ swapOf t r o k
+  pub swap-refused : (f : Refusal) → v ≡ verdict.Refused f → record { answer = Refused f; table = t; order = o } ≡ swapOf t r o k
   unfolding swapStages
-  swap-refused n x h = swap-by (row-refuses (checkStages t r o) _ n x judged h)
+  swap-refused f h = swap-by (row-refuses (checkStages t r o) _ f judged h)
 
   module _ (clear : v ≡ verdict.Clear) where
     passed : Passes t r o
@@ -131,12 +132,12 @@ module _ (t r o : List ℕ) (k : ℕ) {v : Verdict} (judged : v ≡ judge (check
     pub order-loads : (length o ≤ ceiling) × Permutation o
     order-loads = (sizes .few-variables, permutation-if o (passed .c2))
 
-    pub swap-nowhere : length o - 1 ≤ k → record { answer = Refused 12 k; table = t; order = o } ≡ swapOf t r o k
+    pub swap-nowhere : length o - 1 ≤ k → record { answer = Refused (refusal 12 k); table = t; order = o } ≡ swapOf t r o k
     unfolding swapStages
     swap-nowhere h = swap-by (row-passes (checkStages t r o) _ judged clear (place-refuses 12 k (noLevel o k) true verdict.Clear (sym (le-leb (length o - 1) k h)) refl))
 
     module _ (h : k < length o - 1) {q : Order} (loaded : q ≡ loadOrder o) where
-      clear-all : verdict.Clear ≡ judge (swapStages t r o k)
+      clear-all : verdict.Clear ≡ verdictOf (swapStages t r o k)
       unfolding swapStages
       clear-all = row-passes (checkStages t r o) _ judged clear (place-passes 12 k (noLevel o k) false verdict.Clear verdict.Clear (sym (lt-leb (length o - 1) k h)) refl refl)
 

@@ -13,7 +13,7 @@ use Rattle.diagrams.specs.Node.{Node, at}
 use Rattle.diagrams.specs.Decode.{decode}
 use Rattle.diagrams.specs.Lookup.{rootsOf}
 use Rattle.check_records.specs.Meaning.{Sizes, sizes-if}
-use Rattle.checks.specs.Stages.{AllPass, also, stageAt, judge, passed-only, clear-only}
+use Rattle.checks.specs.Stages.{AllPass, also, stageAt, verdictOf, passed-only, clear-only}
 use Rattle.checks.specs.Check.{checkStages}
 use Rattle.checks.specs.Theorems.{Bounded, refusal-small}
 use Rattle.checks.specs.declared.Verdict.{Verdict}
@@ -56,14 +56,14 @@ module _ (t r o : List ℕ) (k m : ℕ) (big : 2 * mostRecords < m) (level : k <
   unfolding swapStages checkStages
   sizes-passed (also h rest) = sizes-if t r o (passed-only 0 h)
 
-  judged-below : (v : Verdict) → judge (swapStages t r o k) ≡ v → Below m (numbers (swapJudged t r o k v .answer))
+  judged-below : (v : Verdict) → verdictOf (swapStages t r o k) ≡ v → Below m (numbers (swapJudged t r o k v .answer))
   unfolding roomOf swapStages Bounded
   judged-below verdict.Clear e =
       room-below (fitsIn t r (xAt o k) (yAt o k)) _ _ (room-small t r (xAt o k) (yAt o k) m big (sizes-passed (clear-only (swapStages t r o k) e) .few-records))
-  judged-below (verdict.Refused j x) e =
-      let w = refusal-small t r o (stageAt 12 k (noLevel o k) ∷ []) m j x (omega arith) (omega arith, omega arith, tt) e in
+  judged-below (verdict.Refused f) e =
+      let w = refusal-small t r o (stageAt 12 k (noLevel o k) ∷ []) m (f .number) (f .place) (omega arith) (omega arith, omega arith, tt) e in
       (w .0, (w .1, tt))
 
   pub swap-numbers-small : Below m (numbers (swapOf t r o k .answer))
   unfolding swapOf
-  swap-numbers-small = judged-below (judge (swapStages t r o k)) refl
+  swap-numbers-small = judged-below (verdictOf (swapStages t r o k)) refl

@@ -24,13 +24,14 @@ use Rattle.diagrams.specs.Levels.{free-node}
 use Rattle.diagrams.specs.Diagram.{Diagram}
 use Rattle.diagrams.specs.Reduced.{diagram-of, look-plain}
 use Rattle.diagrams.specs.Value.{value, Value}
-use Rattle.checks.specs.Stages.{AllPass, also, both-rows, FailsFirst, stageAt, judge, passed-only, clear-if, clear-only, refused-if, refused-only, row-passes, place-passes}
+use Rattle.checks.specs.Stages.{AllPass, also, both-rows, FailsFirst, refusal, stageAt, verdictOf, passed-only, clear-if, clear-only, refused-if, refused-only, row-passes, place-passes}
 use Rattle.checks.specs.Check.{checkStages, used, checkOf}
 use Rattle.checks.specs.Usable.{Usable, usable-if, usable-then, all-pass, passes-all}
 use Rattle.checks.specs.Theorems.{accepts}
+use Rattle.checks.specs.declared.Refusal.{Refusal}
 use Rattle.checks.specs.declared.Verdict.{Verdict}
 use Rattle.checks.specs.declared.Verdict.the-variants as verdict
-use Rattle.checks.specs.declared.Answer.the-variants.{Accepted}
+use Rattle.checks.specs.declared.CheckAnswer.the-variants.{Accepted}
 use Rattle.diagrams.specs.Edition.{plain}
 use Rattle.swap_rules.specs.Record.{isUsedNode, isFreeNode, Behind, behind}
 use Rattle.swap_rules.specs.Swap.{xAt, yAt, crosses, dies, needed, freeCount, fits, filled, dying, usedCount, swapped}
@@ -39,8 +40,8 @@ use Rattle.swap_rules.specs.Theorem.{Cofactors, swap-diagram, swap-bryant, swap
 use Rattle.swaps.specs.Outcome.{fitsIn, roomOf, room-fits, room-lacks, tableAfter, noLevel, swapStages, Swapped, swapAfter, swapJudged, swapOf, SwapOutcome}
 use Rattle.swaps.specs.declared.Room.{Room}
 use Rattle.swaps.specs.declared.Room.the-variants as room
-use Rattle.swaps.specs.declared.Swapping.{Swapping}
-use Rattle.swaps.specs.declared.Swapping.the-variants.{Made, NoRoom, Refused}
+use Rattle.swaps.specs.declared.SwapAnswer.{SwapAnswer}
+use Rattle.swaps.specs.declared.SwapAnswer.the-variants.{Made, NoRoom, Refused}
 
 -- ---- as many records as before
 
@@ -247,7 +248,7 @@ module _ (t r : List ℕ) (x y : ℕ) where
 
 -- Swap of a table that is accepted, at two levels of its order
 module _ (t r o : List ℕ) (k : ℕ) (usable : Usable t r o) (level : k + 1 < length o) where
-  swap-clear : judge (swapStages t r o k) ≡ verdict.Clear
+  swap-clear : verdictOf (swapStages t r o k) ≡ verdict.Clear
   unfolding swapStages
   swap-clear =
       sym (row-passes (checkStages t r o) (stageAt 12 k (noLevel o k) ∷ []) refl (clear-if (checkStages t r o) (all-pass t r o (usable-then t r o usable)))
@@ -278,18 +279,18 @@ module _ (t r o : List ℕ) (k : ℕ) where
       there (also h rest) = omega (arith, leb-false (length o - 1) k (passed-only k h))
 
   -- an answer that is no refusal comes from a table that passed
-  passed : (a : Swapping) → swapOf t r o k .answer ≡ a → ((n p : ℕ) → a ≡ Refused n p → ⊥) → judge (swapStages t r o k) ≡ verdict.Clear
+  passed : (a : SwapAnswer) → swapOf t r o k .answer ≡ a → ((w : Refusal) → a ≡ Refused w → ⊥) → verdictOf (swapStages t r o k) ≡ verdict.Clear
   unfolding swapOf
-  passed a e f = go (judge (swapStages t r o k)) e
+  passed a e f = go (verdictOf (swapStages t r o k)) e
     where
       go : (v : Verdict) → swapJudged t r o k v .answer ≡ a → v ≡ verdict.Clear
       go verdict.Clear q = refl
-      go (verdict.Refused n p) q = absurd (f n p (sym q))
+      go (verdict.Refused w) q = absurd (f w (sym q))
 
   pub made-only : swapOf t r o k .answer ≡ Made → (Usable t r o × (k + 1 < length o)) × (fitsIn t r (xAt o k) (yAt o k) ≡ true)
   unfolding swapOf
   made-only e =
-      let c : judge (swapStages t r o k) ≡ verdict.Clear = passed Made e (λ n p q. apart (cc)) in
+      let c : verdictOf (swapStages t r o k) ≡ verdict.Clear = passed Made e (λ w q. apart (cc)) in
       (swap-starts (clear-only (swapStages t r o k) c), fits-if t r (xAt o k) (yAt o k) (room-made-only t r (xAt o k) (yAt o k) (go (roomOf t r (xAt o k) (yAt o k)) (rw c at e))))
     where
       go : (a : Room) → swapAfter t r o k a .answer ≡ Made → a ≡ room.Made
@@ -301,7 +302,7 @@ module _ (t r o : List ℕ) (k : ℕ) where
       × (j ≡ k) × (n ≡ Needed t r (xAt o k) (yAt o k)) × (f ≡ Free t r (xAt o k) (yAt o k))
   unfolding swapOf
   lacks-only j n f e =
-      let c : judge (swapStages t r o k) ≡ verdict.Clear = passed (NoRoom j n f) e (λ m p q. apart (cc)) in
+      let c : verdictOf (swapStages t r o k) ≡ verdict.Clear = passed (NoRoom j n f) e (λ w q. apart (cc)) in
       let w = go (roomOf t r (xAt o k) (yAt o k)) (rw c at e) in
       let l = no-room-only t r (xAt o k) (yAt o k) n f (w .1) in
       (swap-starts (clear-only (swapStages t r o k) c), l .0, w .0, l .1, l .2)
@@ -323,22 +324,22 @@ module _ (t r o : List ℕ) (k : ℕ) where
     made-root-value inputs position b = let w = made-only made in rw made-is (swap-root-value t r o k (w .0 .0) (w .0 .1) (w .1) inputs position b)
 
 -- one outcome for each input
-pub swap-one : (t r o : List ℕ) (k : ℕ) {a b : Swapping} {t₁ t₂ o₁ o₂ : List ℕ} → SwapOutcome t r o k a t₁ o₁ → SwapOutcome t r o k b t₂ o₂ → (a ≡ b) × (t₁ ≡ t₂) × (o₁ ≡ o₂)
+pub swap-one : (t r o : List ℕ) (k : ℕ) {a b : SwapAnswer} {t₁ t₂ o₁ o₂ : List ℕ} → SwapOutcome t r o k a t₁ o₁ → SwapOutcome t r o k b t₂ o₂ → (a ≡ b) × (t₁ ≡ t₂) × (o₁ ≡ o₂)
 swap-one t r o k p q = (ap (λ (s : Swapped). s .answer) (p ∙ sym q), ap (λ (s : Swapped). s .table) (p ∙ sym q), ap (λ (s : Swapped). s .order) (p ∙ sym q))
 
 -- Swap refuses with n at p exactly where check n fails at p, at no place before it, and every earlier check passes everywhere; it changes nothing then
-pub swap-refuses : (t r o : List ℕ) (k n p : ℕ) → FailsFirst (swapStages t r o k) n p → swapOf t r o k ≡ record { answer = Refused n p; table = t; order = o }
+pub swap-refuses : (t r o : List ℕ) (k n p : ℕ) → FailsFirst (swapStages t r o k) n p → swapOf t r o k ≡ record { answer = Refused (refusal n p); table = t; order = o }
 unfolding swapOf
 swap-refuses t r o k n p f = ap (swapJudged t r o k) (refused-if (swapStages t r o k) n p f)
 
-pub swap-refuses-only : (t r o : List ℕ) (k n p : ℕ) → swapOf t r o k .answer ≡ Refused n p → FailsFirst (swapStages t r o k) n p
+pub swap-refuses-only : (t r o : List ℕ) (k n p : ℕ) → swapOf t r o k .answer ≡ Refused (refusal n p) → FailsFirst (swapStages t r o k) n p
 unfolding swapOf
-swap-refuses-only t r o k n p e = refused-only (swapStages t r o k) n p (go (judge (swapStages t r o k)) e)
+swap-refuses-only t r o k n p e = refused-only (swapStages t r o k) n p (go (verdictOf (swapStages t r o k)) e)
   where
-    room-answers : (a : Room) → swapAfter t r o k a .answer ≡ Refused n p → verdict.Clear ≡ verdict.Refused n p
+    room-answers : (a : Room) → swapAfter t r o k a .answer ≡ Refused (refusal n p) → verdict.Clear ≡ verdict.Refused (refusal n p)
     room-answers room.Made e = apart (cc)
     room-answers (room.NoRoom a b) e = apart (cc)
 
-    go : (v : Verdict) → swapJudged t r o k v .answer ≡ Refused n p → v ≡ verdict.Refused n p
+    go : (v : Verdict) → swapJudged t r o k v .answer ≡ Refused (refusal n p) → v ≡ verdict.Refused (refusal n p)
     go verdict.Clear e = room-answers (roomOf t r (xAt o k) (yAt o k)) e
-    go (verdict.Refused j q) e = let a : j ≡ n = cc in let b : q ≡ p = cc in rw (a, b)
+    go (verdict.Refused w) e = cc

@@ -12,7 +12,7 @@ use Rattle.diagrams.specs.Layout.{records}
 use Rattle.diagrams.specs.Node.{at}
 use Rattle.diagrams.specs.Decode.{decode, encode}
 use Rattle.diagrams.specs.Lookup.{rootsOf}
-use Rattle.checks.specs.Stages.{Stage, stageAt, judge}
+use Rattle.checks.specs.Stages.{Stage, stageAt, verdictOf}
 use Rattle.checks.specs.Check.{checkStages}
 use Rattle.checks.specs.declared.Verdict.{Verdict}
 use Rattle.checks.specs.declared.Verdict.the-variants as verdict
@@ -20,8 +20,8 @@ use Rattle.diagrams.specs.Edition.{plain}
 use Rattle.swap_rules.specs.Swap.{xAt, yAt, needed, freeCount, fits, swapped}
 use Rattle.swaps.specs.declared.Room.{Room}
 use Rattle.swaps.specs.declared.Room.the-variants as room
-use Rattle.swaps.specs.declared.Swapping.{Swapping}
-use Rattle.swaps.specs.declared.Swapping.the-variants.{Made, NoRoom, Refused}
+use Rattle.swaps.specs.declared.SwapAnswer.{SwapAnswer}
+use Rattle.swaps.specs.declared.SwapAnswer.the-variants.{Made, NoRoom, Refused}
 
 -- ---- of a table that is accepted, with x and y at the two levels
 
@@ -58,7 +58,7 @@ swapStages t r o k = checkStages t r o ++ (stageAt 12 k (noLevel o k) ∷ [])
 
 -- the answer and every buffer that is lent for writing
 pub record Swapped : Type 0 where
-  pub answer : Swapping
+  pub answer : SwapAnswer
   pub table : List ℕ
   pub order : List ℕ
 
@@ -69,20 +69,20 @@ swapAfter t r o k (room.NoRoom needed free) = record { answer = NoRoom k needed 
 
 abbrev pub swapJudged : List ℕ → List ℕ → List ℕ → ℕ → Verdict → Swapped
 swapJudged t r o k verdict.Clear = swapAfter t r o k (roomOf t r (xAt o k) (yAt o k))
-swapJudged t r o k (verdict.Refused number place) = record { answer = Refused number place; table = t; order = o }
+swapJudged t r o k (verdict.Refused w) = record { answer = Refused w; table = t; order = o }
 
 unfoldable pub swapOf : List ℕ → List ℕ → List ℕ → ℕ → Swapped
-swapOf t r o k = swapJudged t r o k (judge (swapStages t r o k))
+swapOf t r o k = swapJudged t r o k (verdictOf (swapStages t r o k))
 
 -- what Swap may answer, and leave in the buffers
-abbrev pub SwapOutcome : List ℕ → List ℕ → List ℕ → ℕ → Swapping → List ℕ → List ℕ → Type 0
+abbrev pub SwapOutcome : List ℕ → List ℕ → List ℕ → ℕ → SwapAnswer → List ℕ → List ℕ → Type 0
 SwapOutcome t r o k a t′ o′ = record { answer = a; table = t′; order = o′ } ≡ swapOf t r o k
 
 -- the paper's number and values of each answer; 0 stands for made and 100 for no room
-abbrev pub numbers : Swapping → List ℕ
+abbrev pub numbers : SwapAnswer → List ℕ
 numbers Made = 0 ∷ []
 numbers (NoRoom level needed free) = 100 ∷ level ∷ needed ∷ free ∷ []
-numbers (Refused number place) = number ∷ place ∷ []
+numbers (Refused w) = w .number ∷ w .place ∷ []
 
 -- ---- what an answer says of the room
 
