@@ -15,7 +15,8 @@ use Rattle.lists.specs.Truth.{or-neither}
 use Rattle.diagrams.specs.Layout.{rootCount, rootAt}
 use Rattle.diagrams.specs.Lookup.{lookup}
 use Rattle.diagrams.specs.Value.{value}
-use Rattle.orders.specs.Permutation.{Permutation, permutation-if, permutation-then}
+use Rattle.orders.specs.Permutation.{Permutation}
+use Rattle.check_permutation.specs.BadPlace.{permutation-if, permutation-then}
 use Rattle.orders.specs.Exchange.{length-exchange}
 use Rattle.plans.specs.Inversions.{left}
 use Rattle.plans.specs.Plans.{bringUp, bring-up-lawful, reached, left-zero}
