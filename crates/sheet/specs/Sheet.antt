@@ -10,7 +10,8 @@ use Rattle.lists.specs.Keep.{keep, once, each, which}
 use Rattle.diagrams.specs.Node.{Node, free, node, look}
 use Rattle.diagrams.specs.Decode.{nodeAt, decode, eight, encode}
 use Rattle.diagrams.specs.Lookup.{rootsOf}
-use Rattle.orders.specs.Permutation.{holdsAt, badPlace, levelOf}
+use Rattle.orders.specs.Permutation.{holdsAt, levelOf}
+use Rattle.check_permutation.specs.BadPlace.{badPlace}
 use Rattle.orders.specs.Exchange.{exchange}
 use Rattle.plans.specs.Inversions.{inverted, left}
 use Rattle.plans.specs.Plans.{differsAt, same?, bringUp, nearest}

@@ -61,14 +61,14 @@ fn verdict_of_run(table: &[u8], roots: &[u8], order: &[u8], target: &[u8]) -> Ve
             place: 0,
         });
     }
-    let bad_order = orders::first_bad_place(order);
+    let bad_order = check_permutation::first_bad_place(order);
     if bad_order < order.len() {
         return Verdict::Refused(Refusal {
             number: 2,
             place: bad_order,
         });
     }
-    let bad_target = orders::first_bad_place(target);
+    let bad_target = check_permutation::first_bad_place(target);
     if bad_target < target.len() {
         return Verdict::Refused(Refusal {
             number: 3,

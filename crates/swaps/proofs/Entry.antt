@@ -17,7 +17,8 @@ use Rattle.diagrams.specs.Node.{Node, at}
 use Rattle.diagrams.specs.Decode.{decode, encode}
 use Rattle.diagrams.specs.Lookup.{rootsOf}
 use Rattle.diagrams.specs.Store.{length-encode}
-use Rattle.orders.specs.Permutation.{ceiling, Permutation, permutation-if}
+use Rattle.orders.specs.Permutation.{ceiling, Permutation}
+use Rattle.check_permutation.specs.BadPlace.{permutation-if}
 use Rattle.orders.specs.Exchange.{exchange}
 use Rattle.orders.specs.Order.{loadOrder, exchangedOrder, Inverse}
 use Rattle.orders.specs.Load.{load-variables}
