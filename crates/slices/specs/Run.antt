@@ -5,10 +5,6 @@ use mathlib.Core.List.{List, [], _∷_}
 use mathlib.Core.Path.{_≡_}
 use lib.Dec.{eqb}
 use lib.ListN.{length}
-use Rattle.diagrams.specs.Layout.{records}
-use Rattle.diagrams.specs.Node.{at}
-use Rattle.diagrams.specs.Decode.{decode}
-use Rattle.diagrams.specs.Lookup.{rootsOf}
 use Rattle.orders.specs.Exchange.{exchange}
 use Rattle.orders.specs.Plans.{bringUp}
 use Rattle.orders.specs.Arranged.{bytesOf, Arranged}
@@ -19,9 +15,8 @@ use Rattle.checks.specs.Stages.{Stage, stageAt}
 use Rattle.checks.specs.Check.{orderStage, tableStages}
 use Rattle.checks.specs.declared.Verdict as judged
 use Rattle.checks.specs.declared.Verdict.the-variants as verdict
-use Rattle.diagrams.specs.Edition.{plain}
-use Rattle.swap_rules.specs.Swap.{xAt, yAt, needed, freeCount}
-use Rattle.swaps.specs.Outcome.{fitsIn, tableAfter}
+use Rattle.swap_rules.specs.Swap.{xAt, yAt}
+use Rattle.swaps.specs.Outcome.{neededIn, freeIn, fitsIn, tableAfter}
 use Rattle.slices.specs.Slices as over
 use Rattle.slices.specs.Slices.{Relay, Judgement, done, noRoom, paused}
 use Rattle.slices.specs.declared.Slice.{Slice}
@@ -37,7 +32,7 @@ pub record State : Type 0 where
 unfoldable pub relay : List ℕ → Relay State
 relay r = record {
   order = λ s. s .order;
-  fits = λ s k. fitsIn (s .table) r (xAt (s .order) k) (yAt (s .order) k);
+  fits = λ s k. fitsIn (s .table) (xAt (s .order) k) (yAt (s .order) k);
   swapped = λ s k. record { table = tableAfter (s .table) r (xAt (s .order) k) (yAt (s .order) k); order = exchange (s .order) k };
 }
 
@@ -53,8 +48,8 @@ unfoldable pub answerOf : List ℕ → ℕ → ℕ → State → Judgement → S
 answerOf r swaps left s done = Done swaps left
 answerOf r swaps left s (noRoom k) =
     NoRoom swaps left k
-    (needed plain (at (decode (s .table))) (records (s .table)) (xAt (s .order) k) (yAt (s .order) k) (rootsOf r))
-    (freeCount plain (at (decode (s .table))) (records (s .table)) (xAt (s .order) k) (yAt (s .order) k) (rootsOf r))
+    (neededIn (s .table) (xAt (s .order) k) (yAt (s .order) k))
+    (freeIn (s .table))
 answerOf r swaps left s paused = Paused swaps left
 
 -- the answer and every buffer that is lent for writing

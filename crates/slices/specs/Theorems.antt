@@ -28,8 +28,8 @@ use Rattle.checks.specs.Usable.{Usable, usable-if, usable-then, all-pass, passe
 use Rattle.checks.specs.declared.Verdict as judged
 use Rattle.checks.specs.declared.Verdict.the-variants as verdict
 use Rattle.swap_rules.specs.Swap.{xAt, yAt}
-use Rattle.swaps.specs.Outcome.{fitsIn, swapOf}
-use Rattle.swaps.specs.Bytes.{Needed, Free, fits-then, unfit-then, swap-usable, swap-root-value, swap-made, swap-lacks}
+use Rattle.swaps.specs.Outcome.{neededIn, freeIn, fitsIn, swapOf}
+use Rattle.swaps.specs.Bytes.{fits-then, unfit-then, swap-usable, swap-root-value, swap-made, swap-lacks}
 use Rattle.swaps.specs.declared.Swapping.the-variants as swapping
 use Rattle.swaps.specs.declared.Swapping.the-variants.{Made}
 use Rattle.slices.specs.Slices as over
@@ -121,15 +121,15 @@ answer-paused r m l s (noRoom k) i j e = apart (cc)
 answer-paused r m l s paused i j e = (refl, (cc), (cc))
 
 answer-no-room : (r : List ℕ) (m l : ℕ) (s : State) (v : Judgement) (i j k n f : ℕ) → answerOf r m l s v ≡ NoRoom i j k n f
-    → (v ≡ noRoom k) × (n ≡ Needed (s .table) r (xAt (s .order) k) (yAt (s .order) k)) × (f ≡ Free (s .table) r (xAt (s .order) k) (yAt (s .order) k))
+    → (v ≡ noRoom k) × (n ≡ neededIn (s .table) (xAt (s .order) k) (yAt (s .order) k)) × (f ≡ freeIn (s .table))
 unfolding answerOf
 answer-no-room r m l s done i j k n f e = apart (cc)
 answer-no-room r m l s paused i j k n f e = apart (cc)
 answer-no-room r m l s (noRoom q) i j k n f e =
     let p : q ≡ k = cc in
-    let a : Needed (s .table) r (xAt (s .order) q) (yAt (s .order) q) ≡ n = cc in
-    let b : Free (s .table) r (xAt (s .order) q) (yAt (s .order) q) ≡ f = cc in
-    (ap noRoom p, sym a ∙ ap (λ z. Needed (s .table) r (xAt (s .order) z) (yAt (s .order) z)) p, sym b ∙ ap (λ z. Free (s .table) r (xAt (s .order) z) (yAt (s .order) z)) p)
+    let a : neededIn (s .table) (xAt (s .order) q) (yAt (s .order) q) ≡ n = cc in
+    let b : freeIn (s .table) ≡ f = cc in
+    (ap noRoom p, sym a ∙ ap (λ z. neededIn (s .table) (xAt (s .order) z) (yAt (s .order) z)) p, sym b)
 
 -- ---- two answers as one: the swaps add up, all else is the later one's
 
@@ -168,7 +168,7 @@ unfolding relay
 goes-made r g target s w e =
     let k : ℕ = over.next (relay r) bringUp g s in
     let level : k + 1 < length (s .order) = over.planned-inversion (relay r) bringUp g (Good r (length g)) (relay-laws r (length g)) bring-up-lawful target s w e .within in
-    swap-made (s .table) r (s .order) k (w .0) level (fits-then (s .table) r (xAt (s .order) k) (yAt (s .order) k) (over.goes-on (relay r) bringUp g s e .1))
+    swap-made (s .table) r (s .order) k (w .0) level (fits-then (s .table) (xAt (s .order) k) (yAt (s .order) k) (over.goes-on (relay r) bringUp g s e .1))
 
 -- ---- a run of a table that the relay can use, towards a permutation of its variables
 
@@ -240,7 +240,7 @@ module _ (t r o g : List ℕ) (usable : Usable t r o) (target : Permutation g) (
   unfolding relay
   keeps-stepped s w e =
       let k : ℕ = over.next R bringUp g s in
-      let fit : fitsIn (s .table) r (xAt (s .order) k) (yAt (s .order) k) ≡ true = over.goes-on R bringUp g s e .1 in
+      let fit : fitsIn (s .table) (xAt (s .order) k) (yAt (s .order) k) ≡ true = over.goes-on R bringUp g s e .1 in
       let level : k + 1 < length (s .order) = over.planned-inversion R bringUp g (Good r (length g)) laws bring-up-lawful target s (w .0) e .within in
       (laws .good-swapped s k (w .0) (rw (w .0 .1) at level) fit, λ inputs position b. (rw (w .0 .1) at (swap-root-value (s .table) r (s .order) k (w .0 .0) level fit inputs position b)) ∙ w .1 inputs position b)
 
@@ -293,7 +293,7 @@ module _ (t r o g : List ℕ) (usable : Usable t r o) (target : Permutation g) (
       let w = answer-no-room r _ _ _ _ m l k n f (sym (ap (λ (w : Ran). w .answer) (run-is b)) ∙ e) in
       let u = over.stuck R bringUp g s k (w .0) in
       let level : k + 1 < length (s .order) = rw (u .1) (over.next-inversion R bringUp g (Good r (length g)) laws bring-up-lawful target s (good-left b) (u .0) .within) in
-      let lack : Free (s .table) r (xAt (s .order) k) (yAt (s .order) k) < Needed (s .table) r (xAt (s .order) k) (yAt (s .order) k) = unfit-then (s .table) r (xAt (s .order) k) (yAt (s .order) k) (u .2) in
+      let lack : freeIn (s .table) < neededIn (s .table) (xAt (s .order) k) (yAt (s .order) k) = unfit-then (s .table) (xAt (s .order) k) (yAt (s .order) k) (u .2) in
       (rw (run-order b) (u .1), rw (run-table b, run-order b, w .1, w .2) (swap-lacks (s .table) r (s .order) k (good-left b .0) level lack))
 
   -- each run spends its whole budget or ends in done or no room
