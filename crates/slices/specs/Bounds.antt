@@ -55,7 +55,7 @@ judged-below r g m swaps s big h z = go (over.arrived (relay r) bringUp g s) (re
     go true f = (omega arith, (h, (left-below, tt)))
     go false true = (omega arith, (h, (left-below, tt)))
     go false false =
-        let w = room-small (s .table) r (xAt (s .order) k) (yAt (s .order) k) m big (z .few-records) in
+        let w = room-small (s .table) (xAt (s .order) k) (yAt (s .order) k) m big (z .few-records) in
         (omega arith, (h, (left-below, (omega (arith, bring-up-within (s .order) g, few), (w .0, (w .1, tt))))))
 
 module _ (t r o g : List ℕ) (budget m : ℕ) (big : 2 * mostRecords < m) (fits : budget < m) where

@@ -191,8 +191,7 @@ module _ (W : OneSwap) (plan : Plan) (lawful : Lawful plan) (t r o g : List ℕ)
   keeps-stepped s w e =
       let k : ℕ = over.next R plan g s in
       let (a, f) = over.goes-on R plan g s e in
-      let level : k + 1 < length (s .order) = next-inside s (w .0) a in
-      (
+      let level : k + 1 < length (s .order) = next-inside s (w .0) a in (
         laws .good-swapped s k (w .0) (rw (w .0 .1) at level) f,
         λ inputs position b. (rw (w .0 .1) at (W .value-after (s .table) r (s .order) k (w .0 .0) level f inputs position b)) ∙ w .1 inputs position b,
       )

@@ -92,7 +92,7 @@ fn prepare(table: &[u8], roots: &[u8], x: Variable, y: Variable, image: &mut [u8
 // Is there room for the swap of x and y in an accepted table? Nothing is written.
 pub fn has_room(table: &[u8], roots: &[u8], x: Variable, y: Variable) -> Room
     requires { ⌜ Sized (now table) (now roots) × ((x .0 < 256) × (y .0 < 256)) ⌝ }
-    ensures { λ a. ⌜ a ≡ roomOf (now (table .entry)) (now (roots .entry)) (x .0) (y .0) ⌝ }
+    ensures { λ a. ⌜ a ≡ roomOf (now (table .entry)) (x .0) (y .0) ⌝ }
 {
     let mut image = no_image();
     prepare(table, roots, x, y, &mut image)
