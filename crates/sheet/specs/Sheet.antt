@@ -10,11 +10,19 @@ use Rattle.lists.specs.Keep.{keep, once, each, which}
 use Rattle.diagrams.specs.Node.{Node, free, node, look}
 use Rattle.diagrams.specs.Decode.{nodeAt, decode, eight, encode}
 use Rattle.diagrams.specs.Lookup.{rootsOf}
+use Rattle.diagrams.specs.References.{namesRecord, dead}
+use Rattle.diagrams.specs.Noting.{rootNames, recordNames}
 use Rattle.orders.specs.Permutation.{holdsAt, badPlace, levelOf}
 use Rattle.orders.specs.Exchange.{exchange}
 use Rattle.orders.specs.Inversions.{inverted, left}
 use Rattle.orders.specs.Plans.{differsAt, same?, bringUp, nearest}
-use Rattle.check_records.specs.Tests.{badSizes, dead, malformed, notUnder, notBelow, lowIsHigh, sameRecord, repeats, deadRoot, rootNames, recordNames, idle}
+use Rattle.check_sizes.specs.Sizes.{badSizes}
+use Rattle.check_malformed.specs.Malformed.{malformed}
+use Rattle.check_levels.specs.Levels.{notUnder, notBelow}
+use Rattle.check_equal.specs.Equal.{lowIsHigh}
+use Rattle.check_repeats.specs.Repeats.{sameRecord, repeats}
+use Rattle.check_roots.specs.Roots.{deadRoot}
+use Rattle.check_names.specs.Names.{idle}
 use Rattle.checks.specs.Stages.{only, verdictFrom}
 use Rattle.checks.specs.Check.{tableStages, used}
 use Rattle.swap_rules.specs.Record.{lowOf, highOf, isFreeNode, isOf, same}
@@ -102,5 +110,5 @@ rows =
 
 -- every row comes out as the sheet has it
 pub sheet : map outcome rows ≡ map expected rows
-unfolding outcome expected rows swap orders rootBytes nodeAt decode eight encode rootsOf runOf runStages badRunSizes badSizes only verdictFrom holdsAt badPlace levelOf tableStages dead malformed notUnder notBelow lowIsHigh sameRecord repeats deadRoot rootNames recordNames idle ranTo answerOf relay slice over.after over.judge made goes next arrived same? differsAt bringUp nearest exchange left inverted pairs total first count tabulate keep once each which look lowOf highOf isFreeNode isOf same grandchild f00 f01 f10 f11 crosses asked stands isNew wanted news names dies slots slotOf X becomes needed freeCount fits turn filled one.after swapped tableAfter
+unfolding outcome expected rows swap orders rootBytes nodeAt decode eight encode rootsOf runOf runStages badRunSizes badSizes only verdictFrom holdsAt badPlace levelOf tableStages namesRecord dead malformed notUnder notBelow lowIsHigh sameRecord repeats deadRoot rootNames recordNames idle ranTo answerOf relay slice over.after over.judge made goes next arrived same? differsAt bringUp nearest exchange left inverted pairs total first count tabulate keep once each which look lowOf highOf isFreeNode isOf same grandchild f00 f01 f10 f11 crosses asked stands isNew wanted news names dies slots slotOf X becomes needed freeCount fits turn filled one.after swapped tableAfter
 sheet = refl

@@ -18,8 +18,8 @@ use Rattle.orders.specs.Inversions.{left, Adjacent}
 use Rattle.orders.specs.Plans.{same?, bringUp, bring-up-lawful}
 use Rattle.orders.specs.Arranged.{bytesOf, Arranged, load-bytes, load-arranged, arranged-length, arranged-inverse, exchanged-arranged, exchanged-bytes, arranged-adjacent}
 use Rattle.orders.specs.declared.Order.{Order}
-use Rattle.check_records.specs.Meaning.{Sized, sized}
-use Rattle.check_records.specs.Tests.{badSizes}
+use Rattle.check_sizes.specs.Sizes.{Sized, sized}
+use Rattle.check_sizes.specs.Sizes.{badSizes}
 use Rattle.checks.specs.Stages.{verdictOf, clear-only, chain}
 use Rattle.checks.specs.declared.Refusal.{Refusal}
 use Rattle.checks.specs.declared.Verdict.{Verdict}

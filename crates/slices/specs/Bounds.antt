@@ -10,7 +10,7 @@ use Rattle.diagrams.specs.Layout.{mostRecords}
 use Rattle.orders.specs.Permutation.{ceiling}
 use Rattle.orders.specs.Inversions.{left, left-small}
 use Rattle.orders.specs.Plans.{bringUp, bring-up-within}
-use Rattle.check_records.specs.Meaning.{Sizes}
+use Rattle.check_sizes.specs.Sizes.{Sizes}
 use Rattle.checks.specs.Stages.{verdictOf, FailsFirst, here, later, passed-only, clear-only, refused-only}
 use Rattle.checks.specs.Check.{tableStages}
 use Rattle.checks.specs.Theorems.{Bounded, refusal-below, table-bounded}

@@ -13,7 +13,7 @@ use Rattle.orders.specs.Exchange.{exchange}
 use Rattle.orders.specs.Plans.{bringUp}
 use Rattle.orders.specs.Arranged.{bytesOf, Arranged}
 use Rattle.orders.specs.declared.Order.{Order}
-use Rattle.check_records.specs.Tests.{badSizes}
+use Rattle.check_sizes.specs.Sizes.{badSizes}
 use Rattle.checks.specs.Stages.{Stage, stageAt, verdictOf}
 use Rattle.checks.specs.Check.{orderStage, tableStages}
 use Rattle.checks.specs.declared.Verdict.{Verdict}

@@ -19,8 +19,8 @@ use Rattle.orders.specs.Permutation.{Permutation, permutation-if, permutation-t
 use Rattle.orders.specs.Exchange.{length-exchange}
 use Rattle.orders.specs.Inversions.{left}
 use Rattle.orders.specs.Plans.{bringUp, bring-up-lawful, reached, left-zero}
-use Rattle.check_records.specs.Meaning.{Sizes, sizes-if, sizes-then}
-use Rattle.check_records.specs.Tests.{badSizes}
+use Rattle.check_sizes.specs.Sizes.{Sizes, sizes-if, sizes-then}
+use Rattle.check_sizes.specs.Sizes.{badSizes}
 use Rattle.checks.specs.Stages.{refusal, verdictOf, AllPass, also, only-passed, passed-only, FailsFirst, clear-if, clear-only, refused-if, refused-only}
 use Rattle.checks.specs.Check.{tableStages, checkStages}
 use Rattle.checks.specs.Usable.{Usable, usable-if, usable-then, all-pass, passes-all}
