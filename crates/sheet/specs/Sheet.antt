@@ -19,8 +19,15 @@ use Rattle.orders.specs.Exchange.{exchange}
 use Rattle.plans.specs.Inversions.{inverted, left}
 use Rattle.plans.specs.Plans.{differsAt, same?}
 use Rattle.plans.specs.BringUp.{bringUp, nearest}
-use Rattle.check_records.specs.Tests.{badSizes, dead, malformed, notUnder, notBelow, lowIsHigh, sameRecord, repeats, deadRoot}
-use Rattle.check_records.specs.Tests.{rootNames, recordNames, idle}
+use Rattle.check_sizes.specs.Sizes.{badSizes}
+use Rattle.diagrams.specs.References.{dead}
+use Rattle.check_malformed.specs.Malformed.{malformed}
+use Rattle.check_levels.specs.Levels.{notUnder, notBelow}
+use Rattle.check_equal.specs.Equal.{lowIsHigh}
+use Rattle.check_repeats.specs.Repeats.{sameRecord, repeats}
+use Rattle.check_roots.specs.Roots.{deadRoot}
+use Rattle.diagrams.specs.Noting.{rootNames, recordNames}
+use Rattle.check_names.specs.Names.{idle}
 use Rattle.checks.specs.Stages.{only, verdictFrom}
 use Rattle.checks.specs.Check.{tableStages, used}
 use Rattle.swap_rules.specs.Record.{lowOf, highOf, isFreeNode, isOf, same}
