@@ -1,5 +1,6 @@
-pub mod Slices
-pub mod Bench
+pub mod OneSwap
 pub mod Run
+pub mod Answers
 pub mod Theorems
+pub mod Adding
 pub mod Bounds
