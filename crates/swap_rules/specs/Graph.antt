@@ -9,7 +9,7 @@ use Rattle.lists.specs.Truth.{by, clash}
 use Rattle.diagrams.specs.Node.{Node, free, node, pick}
 use Rattle.diagrams.specs.Bryant.{Nonterminal, Vertex}
 use Rattle.diagrams.specs.Diagram.{Named, Diagram}
-use Rattle.diagrams.specs.Levels.{used, level, free-node}
+use Rattle.diagrams.specs.Levels.{nonterminal, level, free-node}
 use Rattle.swap_rules.specs.Record.{isOf, UsedOf, of-true, pick-node}
 use Rattle.swap_rules.specs.Swap.{grandchild, crosses}
 use Rattle.swap_rules.specs.Step.{Levels, Asked, Kind, kept, crossed, fresh, gone, Made, Step, OneSwap, grand-of, grand-self, pick-grand, grand-one, crosses-x, stays-child}
@@ -248,7 +248,7 @@ module _ {Terminal : ℕ → Type 0} {L L′ : ℕ → Node} {Root : ℕ → Typ
       dead e w (inr p) = upper (m .parent) w (m .side) (named-as r m (w .is)) e p (by (crosses L x y (p .parent)))
 
       more : crosses L x y (m .parent) ≡ false → (dies (m .parent) ≡ true) ⊎ (dies (m .parent) ≡ false) → Named L′ r
-      more c (inl e) = let w : UsedOf y (L (m .parent)) = S .dies-y (m .parent) e in dead e w (D .named (m .parent) (used (w .is)))
+      more c (inl e) = let w : UsedOf y (L (m .parent)) = S .dies-y (m .parent) e in dead e w (D .named (m .parent) (nonterminal (w .is)))
       more c (inr d) = still r m c d
 
       some : (crosses L x y (m .parent) ≡ true) ⊎ (crosses L x y (m .parent) ≡ false) → Named L′ r
@@ -271,8 +271,8 @@ module _ {Terminal : ℕ → Type 0} {L L′ : ℕ → Node} {Root : ℕ → Typ
       made l h e s d (inr z) = subst (λ (q : ℕ). Named L′ q) (single′ (X l h) r (z .1) e) (asked-named l h s)
 
       go : New L x y X dies r (u .variable) (u .low) (u .high) → Root r ⊎ Named L′ r
-      go (as-kept e f d) = lasting-named r (used e) d
-      go (as-crossed l₀ h₀ e _ _ _) = lasting-named r (used e) (x-lives W r l₀ h₀ e)
+      go (as-kept e f d) = lasting-named r (nonterminal e) d
+      go (as-crossed l₀ h₀ e _ _ _) = lasting-named r (nonterminal e) (x-lives W r l₀ h₀ e)
       go (as-fresh _ p s d _) = inr (made (u .low) (u .high) (rw p at (u .is)) s d (S .made (u .low) (u .high) s))
 
   -- ---- roots

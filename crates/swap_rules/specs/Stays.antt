@@ -8,7 +8,7 @@ use Rattle.lists.specs.Truth.{by, clash}
 use Rattle.diagrams.specs.Node.{Node, free, node, pick}
 use Rattle.diagrams.specs.Bryant.{Vertex}
 use Rattle.diagrams.specs.Diagram.{Diagram}
-use Rattle.diagrams.specs.Levels.{used, level, child-below, free-node}
+use Rattle.diagrams.specs.Levels.{nonterminal, level, child-below, free-node}
 use Rattle.swap_rules.specs.Record.{isOf, UsedOf, of-true, of-node, pick-node}
 use Rattle.swap_rules.specs.Swap.{grandchild, crosses}
 use Rattle.swap_rules.specs.Step.{Levels, Asked, Open, Kind, kept, crossed, fresh, gone, Made, Step, OneSwap, grand-of, grand-self, grand-differ, crosses-child}
@@ -106,8 +106,8 @@ module _ {Terminal : ℕ → Type 0} {L L′ : ℕ → Node} {Root : ℕ → Typ
   lasts r (inr u) f = go (S .kind r)
     where
       go : Kind Terminal L L′ x y X dies r → Vertex Terminal L′ r
-      go (kept e _ _) = inr (used (e ∙ u .is))
-      go (crossed l h _ _ e) = inr (used e)
+      go (kept e _ _) = inr (nonterminal (e ∙ u .is))
+      go (crossed l h _ _ e) = inr (nonterminal e)
       go (fresh a b c (inl e) _ _ _ _) = free-node e (u .is)
       go (fresh a b c (inr t) _ _ _ _) = clash t f
       go (gone t _) = clash t f
@@ -156,7 +156,7 @@ module _ {Terminal : ℕ → Type 0} {L L′ : ℕ → Node} {Root : ℕ → Typ
 
       go : Made L′ x X a b → Vertex Terminal L′ (X a b)
       go (inl p) = rw (p .1) (lasts a (d .0) (deep-lives a d))
-      go (inr p) = inr (used (p .1))
+      go (inr p) = inr (nonterminal (p .1))
 
   pub X-level : (a b : ℕ) → Asked L x y a b → k < level index′ n (L′ (X a b))
   X-level a b s = go (S .made a b s)

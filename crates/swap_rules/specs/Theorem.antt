@@ -13,7 +13,7 @@ use Rattle.diagrams.specs.Edition.{Edition, plain, seen, Rooted, seen-terminal}
 use Rattle.diagrams.specs.Bryant.{Vertex, Bryant}
 use Rattle.diagrams.specs.Diagram.{Named, Diagram}
 use Rattle.diagrams.specs.Reduced.{bryant-of, diagram-of, look-plain}
-use Rattle.diagrams.specs.Levels.{used, free-node}
+use Rattle.diagrams.specs.Levels.{nonterminal, free-node}
 use Rattle.diagrams.specs.Value.{value, withInput, Value}
 use Rattle.diagrams.specs.Falls.{value-unique, value-is}
 use Rattle.orders.specs.Permutation.{Permutation, levelOf}
@@ -113,7 +113,7 @@ module _ {E : Edition} (t : List Node) (written : Written E t) (roots ord : List
       low = Side L y (X E (at t) (length t) x y) false (u .low) (u .high);
       high = Side L y (X E (at t) (length t) x y) true (u .low) (u .high);
       is = crossed-is W r (u .low) (u .high) (u .is) c;
-      kept = λ inputs. swap-value inputs r (inr (used (u .is))) (x-lives W r (u .low) (u .high) (u .is));
+      kept = λ inputs. swap-value inputs r (inr (nonterminal (u .is))) (x-lives W r (u .low) (u .high) (u .is));
       low-cofactor = λ inputs. side-cofactor W inputs false r (u .low) (u .high) (u .is) c;
       high-cofactor = λ inputs. side-cofactor W inputs true r (u .low) (u .high) (u .is) c;
       low-is = λ inputs. side-value W inputs r (u .low) (u .high) (u .is) c false ∙ low-child inputs (inputs x);
@@ -143,7 +143,7 @@ module _ {E : Edition} (t : List Node) (written : Written E t) (roots ord : List
         dead d = record { was-y = dies-y R roots r d; no-root = step .dies-root r d; no-record = λ m. nobody d m (swap-again W .graph .closed (m .parent) (m .is) (m .side)) }
 
         alive : Unnamed L L′ (Rooted E roots) y r → Dies r ≡ true
-        alive u = ⊎-elim (λ d. d) (λ d. absurd (⊎-elim (u .no-root) (u .no-record) (lasting-named W r (used (u .was-y .is)) d))) (by (Dies r))
+        alive u = ⊎-elim (λ d. d) (λ d. absurd (⊎-elim (u .no-root) (u .no-record) (lasting-named W r (nonterminal (u .was-y .is)) d))) (by (Dies r))
 
   -- Bryant's diagram again
   pub swap-bryant : Bryant (E .Terminal) L (Rooted E roots) (levelOf ord) n → Bryant (E .Terminal) L′ (Rooted E roots) (levelOf (exchange ord k)) (length (exchange ord k))
