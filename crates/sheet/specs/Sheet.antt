@@ -52,8 +52,13 @@ unfoldable pub rootBytes : List ℕ → List ℕ
 rootBytes [] = []
 rootBytes (x ∷ s) = x % 256 ∷ x / 256 ∷ rootBytes s
 
--- what the run gives, by the definition in its contract
+-- what the run gives, by the definition in its contract; `unfolding outcome` opens all that a run is computed with
 unfoldable pub outcome : Row → Outcome
+unfolding nodeAt decode eight encode rootsOf runOf runStages badRunSizes badSizes only verdictFrom holdsAt badPlace levelOf tableStages dead malformed
+    notUnder notBelow lowIsHigh sameRecord repeats deadRoot rootNames recordNames idle ranTo answerOf relay slice over.after over.judge made goes next arrived
+    same? differsAt bringUp nearest exchange left inverted pairs total first count tabulate keep once each which look lowOf highOf isFreeNode isOf same
+    grandchild f00 f01 f10 f11 crosses asked stands isNew wanted news names dies slots slotOf X becomes needed freeCount fits turn filled one.after swapped
+    tableAfter
 outcome row =
     let g = row .given in
     let w = runOf (encode (g .records)) (rootBytes (g .roots)) (g .order) (g .target) (g .budget) in
@@ -102,5 +107,5 @@ rows =
 
 -- every row comes out as the sheet has it
 pub sheet : map outcome rows ≡ map expected rows
-unfolding outcome expected rows swap orders rootBytes nodeAt decode eight encode rootsOf runOf runStages badRunSizes badSizes only verdictFrom holdsAt badPlace levelOf tableStages dead malformed notUnder notBelow lowIsHigh sameRecord repeats deadRoot rootNames recordNames idle ranTo answerOf relay slice over.after over.judge made goes next arrived same? differsAt bringUp nearest exchange left inverted pairs total first count tabulate keep once each which look lowOf highOf isFreeNode isOf same grandchild f00 f01 f10 f11 crosses asked stands isNew wanted news names dies slots slotOf X becomes needed freeCount fits turn filled one.after swapped tableAfter
+unfolding outcome expected rows swap orders rootBytes
 sheet = refl
