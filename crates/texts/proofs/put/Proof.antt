@@ -5,9 +5,9 @@ use lib.ListN.{length}
 use Rattle.lists.specs.Copy.{copiedTo}
 use Rattle.lists.specs.Fold.{Steps, steps-go, steps}
 use borrow.Author.Needs.{needs}
-use Rattle.listing.proofs.Laws.{word-put}
-use Rattle.listing.proofs.put.Statement.{statement}
-use Rattle.listing.proofs.put.Tie as tie
+use Rattle.texts.proofs.Laws.{word-put}
+use Rattle.texts.proofs.put.Statement.{statement}
+use Rattle.texts.proofs.put.Tie as tie
 
 abbrev Inv-loop : tie.InvT-loop
 Inv-loop out₀ at word n i₀ out i = Steps (copiedTo at word) out₀ n i out × (length out ≡ length out₀)
