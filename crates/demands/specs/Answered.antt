@@ -1,9 +1,9 @@
--- Demand 1: every entry answers on any bytes, with one outcome; a refusal has the number of the first check that fails and the first place where it does,
--- and changes nothing; there is no room exactly where more records are needed than are free, and then nothing changes either.
+-- Demand 1: every entry answers on any bytes, with one outcome. A refusal has the number of the first check that fails and the first place where it
+-- does, and changes nothing. There is no room exactly where more records are needed than are free, and then nothing changes either.
 --
--- `checkOf`, `readOf`, `partOf`, `swapOf` and `runOf` are the outcomes that the contracts of the entries cite. t is the table, r the roots, o the order and g the
--- target, each as the list of its bytes. An entry's checks are a list: `checkStages`, `readStages`, `swapStages`, `runStages`. `FailsFirst` of such a list, with k
--- and p: check k fails at place p, at no place before it, and every check before k passes everywhere.
+-- `checkOf`, `readOf`, `partOf`, `swapOf` and `runOf` are the outcomes that the contracts of the entries cite. t is the table, r the roots, o the order
+-- and g the target, each as the list of its bytes. An entry's checks are a list: `checkStages`, `readStages`, `swapStages`, `runStages`.
+-- `FailsFirst` of such a list, with k and p: check k fails at place p, at no place before it, and every check before k passes everywhere.
 use Prim.Native.Nat.{ℕ, _+_, _≤_, _<_}
 use mathlib.Core.Bool.{Bool}
 use mathlib.Core.List.{List}
@@ -78,10 +78,12 @@ module _ (t r o : List ℕ) where
     show-something n = let w = show.some-part-only t r o position n in (w, show.some-part-if t r o position w)
 
     -- what is handed back is the caller's own memory: in the table's block, the part's offset after its first byte, 0 or 8 bytes long, and within the table
-    pub show-lent : {table pointer : ℕ × ℕ} {bytes : List ℕ} → ShowOutcome t r o position table pointer bytes → Lent t table pointer (partOf t r o position .0) bytes
+    pub show-lent : {table pointer : ℕ × ℕ} {bytes : List ℕ} → ShowOutcome t r o position table pointer bytes
+        → Lent t table pointer (partOf t r o position .0) bytes
     show-lent s = show.show-lent t r o position s
 
-    pub show-one : (table : ℕ × ℕ) {p q : ℕ × ℕ} {a b : List ℕ} → ShowOutcome t r o position table p a → ShowOutcome t r o position table q b → (p ≡ q) × (a ≡ b)
+    pub show-one : (table : ℕ × ℕ) {p q : ℕ × ℕ} {a b : List ℕ} → ShowOutcome t r o position table p a
+        → ShowOutcome t r o position table q b → (p ≡ q) × (a ≡ b)
     show-one = show.show-one t r o position
 
   -- ---- Swap

@@ -1,5 +1,6 @@
--- Demand 2: exactly Bryant's diagrams are accepted; a swap that is made gives an accepted table under the exchanged order, keeps every root's reference and, for every
--- combination of inputs, its value, and frees exactly what nothing names any more; what Read answers is the same before and after, of a swap and of a run.
+-- Demand 2: exactly Bryant's diagrams are accepted. A swap that is made gives an accepted table under the exchanged order, keeps every root's
+-- reference and, for every combination of inputs, its value, and frees exactly what nothing names any more. What Read answers is the same before and
+-- after a swap, and before and after a run.
 use Prim.Native.Nat.{ℕ, _+_, _<_}
 use mathlib.Core.Bool.{Bool, true}
 use mathlib.Core.List.{List}
@@ -28,8 +29,8 @@ use Rattle.demands.specs.Exactly.{Exactly}
 use Rattle.demands.specs.SameRead as same
 
 module _ (t r o : List ℕ) where
-  -- accepted, with c used records, exactly for a table that can be used and has so many: right sizes, an order that is a permutation, zeros where nothing is told, and
-  -- a diagram in Bryant's sense (`Usable`)
+  -- accepted, with c used records, exactly for a table that can be used and has so many. `Usable`: right sizes, an order that is a permutation, zeros
+  -- where nothing is told, and a diagram in Bryant's sense
   pub accepted : (c : ℕ) → Exactly (checkOf t r o ≡ checked.Accepted c) (Usable t r o × (c ≡ used t))
   accepted c = record { where-ever = λ w. check.accepts t r o (w .0) ∙ ap checked.Accepted (sym (w .1)); only = check.accepts-only t r o c }
 

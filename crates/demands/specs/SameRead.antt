@@ -78,13 +78,17 @@ module _ (t r o : List ℕ) where
   pub swap-reads : (k position : ℕ) (inputs : List ℕ) → readOf (swapOf t r o k .table) r (swapOf t r o k .order) position inputs ≡ readOf t r o position inputs
   swap-reads k position inputs = go (swapOf t r o k .answer) refl
     where
-      kept : (swapOf t r o k .answer ≡ swaps.Made → ⊥) → readOf (swapOf t r o k .table) r (swapOf t r o k .order) position inputs ≡ readOf t r o position inputs
+      abbrev Same : Type 0
+      Same = readOf (swapOf t r o k .table) r (swapOf t r o k .order) position inputs ≡ readOf t r o position inputs
+
+      kept : (swapOf t r o k .answer ≡ swaps.Made → ⊥) → Same
       kept n = let (p, q) = unmade-keeps t r o k n in ap₂ (λ (a b : List ℕ). readOf a r b position inputs) p q
 
-      go : (a : SwapAnswer) → swapOf t r o k .answer ≡ a → readOf (swapOf t r o k .table) r (swapOf t r o k .order) position inputs ≡ readOf t r o position inputs
+      go : (a : SwapAnswer) → swapOf t r o k .answer ≡ a → Same
       go swaps.Made e =
           let long : length (swapOf t r o k .order) ≡ length o = ap (λ s. length (s .order)) (made-is t r o k e) ∙ length-exchange o k in
-          read-same t (swapOf t r o k .table) r o (swapOf t r o k .order) (made-only t r o k e .0 .0) (made-usable t r o k e) long (made-root-value t r o k e) position inputs
+          read-same t (swapOf t r o k .table) r o (swapOf t r o k .order) (made-only t r o k e .0 .0) (made-usable t r o k e) long
+          (made-root-value t r o k e) position inputs
       go (swaps.NoRoom l) e = kept (λ m. apart (cc))
       go (swaps.Refused f) e = kept (λ m. apart (cc))
 

@@ -1,8 +1,8 @@
 -- Demand 3: slices add up to one run; every order on the way is the plan's; each answer says what it means.
 --
--- So a run that leaves the buffers alone is refused by `orders-followed` and `left-falls`: after m swaps the order is the plan's m-th, and left is smaller by m. One that does the whole job
--- at once is refused by `within-budget`: no more swaps than the budget, and the order is the plan's after just so many. One that invents its numbers is refused by
--- `orders-followed`, `left-told` and demand 1's `run-no-room-only`.
+-- So a run that leaves the buffers alone is refused by `orders-followed` and `left-falls`: after m swaps the order is the plan's m-th, and left is
+-- smaller by m. One that does the whole job at once is refused by `within-budget`: no more swaps than the budget, and the order is the plan's
+-- after just so many. One that invents its numbers is refused by `orders-followed`, `left-told` and demand 1's `run-no-room-only`.
 use Prim.Native.Nat.{ℕ, _+_, _≤_}
 use mathlib.Core.List.{List, foldr}
 use mathlib.Core.Path.{_≡_, refl, ap, sym, _∙_}

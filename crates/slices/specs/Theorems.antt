@@ -89,7 +89,8 @@ module _ (W : OneSwap) (plan : Plan) (t r o g : List ℕ) where
   run-one b p q = (ap (λ (s : Ran). s .answer) (p ∙ sym q), ap (λ (s : Ran). s .table) (p ∙ sym q), ap (λ (s : Ran). s .order) (p ∙ sym q))
 
   -- Run refuses with k at x exactly where check k fails at x, at no place before it, and every earlier check passes everywhere; it changes nothing then
-  pub run-refuses : (b k x : ℕ) → FailsFirst (runStages W t r o g) k x → runOf W plan t r o g b ≡ record { answer = Refused (refusal k x); table = t; order = o }
+  pub run-refuses : (b k x : ℕ) → FailsFirst (runStages W t r o g) k x
+      → runOf W plan t r o g b ≡ record { answer = Refused (refusal k x); table = t; order = o }
   unfolding runOf
   run-refuses b k x f = ap (runJudged W plan t r o g b) (refused-if (runStages W t r o g) k x f)
 
@@ -101,7 +102,8 @@ module _ (W : OneSwap) (plan : Plan) (t r o g : List ℕ) where
       go verdict.Clear q = answer-not-refused _ _ _ (refusal k x) q
       go (verdict.Refused f) q = let p : f ≡ refusal k x = cc in ap verdict.Refused p
 
-  pub refused-keeps : (b : ℕ) (f : Refusal) → runOf W plan t r o g b .answer ≡ Refused f → (runOf W plan t r o g b .table ≡ t) × (runOf W plan t r o g b .order ≡ o)
+  pub refused-keeps : (b : ℕ) (f : Refusal) → runOf W plan t r o g b .answer ≡ Refused f
+      → (runOf W plan t r o g b .table ≡ t) × (runOf W plan t r o g b .order ≡ o)
   refused-keeps b f e =
       let q = run-refuses b (f .number) (f .place) (run-refuses-only b (f .number) (f .place) e) in
       (ap (λ (w : Ran). w .table) q, ap (λ (w : Ran). w .order) q)
