@@ -1,15 +1,15 @@
 -- What a record is to a swap, by its bytes: one law for each way out of a function, over plain variables.
-use Prim.Native.Nat.{ℕ, _-_, _≤_, _<_}
+use Prim.Native.Nat.{ℕ, _+_, _-_, _≤_, _<_}
 use mathlib.Core.Bool.{Bool, true, false, not, _&&_, _||_}
 use mathlib.Core.List.{List}
 use mathlib.Core.Path.{_≡_, refl, sym, _∙_}
 use native.Mathlib.Omega.{arith}
 use borrow.Author.Needs.{needs}
-use borrow.Author.Tests.{eqb-true, eqb-false}
+use borrow.Author.Tests.{eqb-true, eqb-false, not-true, not-false}
 use lib.Dec.{eqb}
-use Rattle.lists.specs.Collect.{Collected}
+use lib.ListN.{length}
+use Rattle.lists.specs.Collect.{Pushed}
 use Rattle.lists.specs.Says.{either-side}
-use Rattle.lists.specs.Which.{which-agrees}
 use Rattle.diagrams.specs.Layout.{records, variableAt, lowAt, highAt, isFree, isUsed, InTable}
 use Rattle.diagrams.specs.Node.{free, pick, at, ref}
 use Rattle.diagrams.specs.Decode.{decode}
@@ -18,7 +18,9 @@ use Rattle.diagrams.specs.References.{namesRecord, not-inside}
 use Rattle.diagrams.specs.Reduced.{look-plain}
 use Rattle.swap_rules.specs.Record.{lowOf, highOf, isOf, of-true}
 use Rattle.swap_rules.specs.Swap.{grandchild, crosses}
-use Rattle.swap_records.specs.Kinds.{crossesAt, standsAt, childAt, of-is}
+use Rattle.swap_records.specs.Kinds.{ofAt, crossesAt, standsAt, childAt, of-is}
+use Rattle.swap_records.specs.Listed.{RoomFor, Splits, Splitting, listing-begins, listing-room, listing-small, listing-passes, listing-goes, listing-ends}
+use Rattle.swap_records.specs.declared.collect.Split.{Split}
 
 -- ---- a used record of a variable
 
@@ -93,16 +95,24 @@ grand-of way t y i side p e f l = rw (node-of t i (omega arith) (eqb-false (vari
 
 -- ---- the x records, split
 
-module _ (t : List ℕ) (x y : ℕ) {list : List ℕ} {k : ℕ} where
-  -- what crosses is of x
-  pub crossing-part : Collected (λ i. isOf x (lookup t (ref i)) && crosses (lookup t) x y (ref i)) (records t) list k → Collected (crossesAt t x y) (records t) list k
-  unfolding crosses
-  crossing-part c = record { entries = c .entries ∙ which-agrees _ _ (records t) (λ i h. twice (isOf x (lookup t (ref i))) _); room = c .room }
-    where
-      twice : (a b : Bool) → (a && (a && b)) ≡ (a && b)
-      twice true b = refl
-      twice false b = refl
+module _ {t : List ℕ} {x y : ℕ} {crossing standing : List ℕ} where
+  pub split-begins : RoomFor t crossing → RoomFor t standing → Splitting t x y 0 crossing standing (record { crossing = 0; standing = 0 })
+  split-begins c s = record { crosses = listing-begins refl c; stands = listing-begins refl s }
 
-  pub standing-part : Collected (λ i. isOf x (lookup t (ref i)) && not (crosses (lookup t) x y (ref i))) (records t) list k → Collected (standsAt t x y) (records t) list k
-  unfolding standsAt
-  standing-part c = c
+  module _ {i : ℕ} {s : Split} (w : Splitting t x y i crossing standing s) where
+    pub split-passes : {b : Bool} → b ≡ ofAt t x i → b ≡ false → i < records t → Splitting t x y (i + 1) crossing standing s
+    unfolding crosses standsAt
+    split-passes e h l = record { crosses = listing-passes (w .crosses) (rw (sym e ∙ h)) l; stands = listing-passes (w .stands) (rw (sym e ∙ h)) l }
+
+    -- an x record crosses or stands
+    pub split-goes : {b c : Bool} {crossing′ standing′ : List ℕ} {j k : ℕ} → b ≡ ofAt t x i → b ≡ true → c ≡ crossesAt t x y i
+        → Pushed c i crossing (s .crossing) crossing′ j → length crossing′ ≡ length crossing
+        → Pushed (not c) i standing (s .standing) standing′ k → length standing′ ≡ length standing
+        → i < records t → Splitting t x y (i + 1) crossing′ standing′ (record { crossing = j; standing = k })
+    unfolding standsAt
+    split-goes e h d p a q b l = record { crosses = listing-goes (w .crosses) d p a l; stands = listing-goes (w .stands) (rw (sym e ∙ h, d)) q b l }
+
+    pub split-ends : records t ≤ i → Splits t x y crossing standing s
+    split-ends l = record { crossing-are = listing-ends (w .crosses) l; standing-are = listing-ends (w .stands) l }
+
+pub ruleset splitting = (split-begins, split-passes, split-goes, split-ends, listing-room, listing-small, not-true, not-false, needs)

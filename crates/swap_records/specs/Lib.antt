@@ -1,3 +1,3 @@
 pub mod Kinds
-pub mod Inside
+pub mod Listed
 pub mod Grands
