@@ -13,7 +13,7 @@ use Rattle.lists.specs.Fold.{Steps, steps-end}
 use Rattle.diagrams.specs.Layout.{mostRecords, records, variableAt, lowAt, highAt, isFree}
 use Rattle.listing.specs.Text.{bytes, named, contentText, listing, answerText, isRefused, printed}
 use Rattle.listing.specs.Size.{roomFor, printed-short}
-use Rattle.slices.specs.declared.Slice.{Slice}
+use Rattle.slices.specs.declared.RunAnswer.{RunAnswer}
 use Rattle.listing.specs.Put.{Put, Room, Printed}
 
 -- ---- a word copied to its place
@@ -44,7 +44,7 @@ module _ (t : List ℕ) (i : ℕ) where
 
 -- ---- all that is printed
 
-module _ (a : Slice) (t r o : List ℕ) where
+module _ (a : RunAnswer) (t r o : List ℕ) where
   pub printed-room : {out : List ℕ} → ((k : ℕ) → Fits w8 (getD t k 0)) → ((k : ℕ) → Fits w8 (getD r k 0)) → ((k : ℕ) → Fits w8 (getD o k 0))
       → (records t ≤ mostRecords) × (roomFor t r o ≤ length out) → Room out 0 (printed a t r o)
   printed-room bt br bo h =

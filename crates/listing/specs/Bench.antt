@@ -3,7 +3,7 @@ use Prim.Native.Nat.{ℕ}
 use mathlib.Core.List.{List, [], _∷_}
 use mathlib.Core.Path.{_≡_, refl}
 use Rattle.lists.specs.First.{first}
-use Rattle.slices.specs.declared.Slice.the-variants.{Done, NoRoom, Refused}
+use Rattle.slices.specs.declared.RunAnswer.the-variants.{Done, NoRoom, Refused}
 use Rattle.listing.specs.Text.{bytes, places, decimal, named, joined, orderLine, contentText, recordLine, rootsLine, listing, swapsText, roomText, answerText, printed}
 
 -- case A after its run
@@ -18,7 +18,7 @@ no-room : answerText (NoRoom 0 1 0 1 0) ≡ bytes "no room swaps 0 left 1 level 
 unfolding first places decimal named swapsText roomText answerText
 no-room = refl
 
-refused : printed (Refused 4 2) after (3 ∷ 0 ∷ []) (1 ∷ 0 ∷ []) ≡ bytes "refused 4 place 2\n"
+refused : printed (Refused (record { number = 4; place = 2 })) after (3 ∷ 0 ∷ []) (1 ∷ 0 ∷ []) ≡ bytes "refused 4 place 2\n"
 unfolding first places decimal named answerText printed
 refused = refl
 

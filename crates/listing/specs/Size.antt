@@ -12,8 +12,8 @@ use Rattle.io.specs.Digits.{digits, Fewest, glyph}
 use Rattle.lists.specs.First.{first, Passed, first-at, first-passed, first-within}
 use Rattle.lists.specs.Says.{either-side, true-false}
 use Rattle.diagrams.specs.Layout.{mostRecords, records, rootCount, variableAt, rootAt, isFree, pairAt}
-use Rattle.slices.specs.declared.Slice.{Slice}
-use Rattle.slices.specs.declared.Slice.the-variants.{Done, NoRoom, Paused, Refused}
+use Rattle.slices.specs.declared.RunAnswer.{RunAnswer}
+use Rattle.slices.specs.declared.RunAnswer.the-variants.{Done, NoRoom, Paused, Refused}
 use Rattle.listing.specs.Text.{bytes, places, decimal, named, joined, variableText, orderLine, contentText, recordLine, rootText, rootsLine, listing, swapsText, roomText, answerText, isRefused, printed}
 
 -- ---- a number's digits
@@ -155,18 +155,18 @@ room-short : (k n f : ℕ) → Short (roomText k n f) 84
 unfolding roomText
 room-short k n f = both-short (both-short (named-any (bytes " level ") k) (named-any (bytes " needed ") n)) (named-any (bytes " free ") f)
 
-answer-short : (a : Slice) → Short (answerText a) 146
+answer-short : (a : RunAnswer) → Short (answerText a) 146
 unfolding answerText
 answer-short (Done s l) = shorter 146 (swaps-short (bytes "done swaps ") s l (record { most = lit≤ tt })) tt
 answer-short (NoRoom s l k n f) = both-short (swaps-short (bytes "no room swaps ") s l (record { most = lit≤ tt })) (room-short k n f)
 answer-short (Paused s l) = shorter 146 (swaps-short (bytes "paused swaps ") s l (record { most = lit≤ tt })) tt
-answer-short (Refused n p) = shorter 146 (both-short (named-any (bytes "refused ") n) (named-any (bytes " place ") p)) tt
+answer-short (Refused w) = shorter 146 (both-short (named-any (bytes "refused ") (w .number)) (named-any (bytes " place ") (w .place))) tt
 
 unless-short : (b : Bool) (text : List ℕ) → length (cond b [] text) ≤ length text
 unless-short true text = zero-le
 unless-short false text = le-refl (length text)
 
-pub printed-short : (a : Slice) (t r o : List ℕ) → Bytes t → Bytes r → Bytes o → records t ≤ mostRecords → length (printed a t r o) ≤ roomFor t r o
+pub printed-short : (a : RunAnswer) (t r o : List ℕ) → Bytes t → Bytes r → Bytes o → records t ≤ mostRecords → length (printed a t r o) ≤ roomFor t r o
 unfolding printed
 printed-short a t r o bt br bo h =
     omega (

@@ -10,8 +10,8 @@ use lib.ListN.{length, getD}
 use Rattle.io.specs.Digits.{digits}
 use Rattle.lists.specs.First.{first}
 use Rattle.diagrams.specs.Layout.{records, rootCount, variableAt, lowAt, highAt, rootAt, isFree}
-use Rattle.slices.specs.declared.Slice.{Slice}
-use Rattle.slices.specs.declared.Slice.the-variants.{Done, NoRoom, Paused, Refused}
+use Rattle.slices.specs.declared.RunAnswer.{RunAnswer}
+use Rattle.slices.specs.declared.RunAnswer.the-variants.{Done, NoRoom, Paused, Refused}
 
 -- a word's bytes
 abbrev pub bytes : String → List ℕ
@@ -65,18 +65,18 @@ swapsText word swaps left = named word swaps ++ named (bytes " left ") left
 unfoldable pub roomText : ℕ → ℕ → ℕ → List ℕ
 roomText level needed free = named (bytes " level ") level ++ named (bytes " needed ") needed ++ named (bytes " free ") free
 
-unfoldable pub answerText : Slice → List ℕ
+unfoldable pub answerText : RunAnswer → List ℕ
 answerText (Done swaps left) = swapsText (bytes "done swaps ") swaps left
 answerText (NoRoom swaps left level needed free) = swapsText (bytes "no room swaps ") swaps left ++ roomText level needed free
 answerText (Paused swaps left) = swapsText (bytes "paused swaps ") swaps left
-answerText (Refused number place) = named (bytes "refused ") number ++ named (bytes " place ") place
+answerText (Refused w) = named (bytes "refused ") (w .number) ++ named (bytes " place ") (w .place)
 
-abbrev pub isRefused : Slice → Bool
+abbrev pub isRefused : RunAnswer → Bool
 isRefused (Done swaps left) = false
 isRefused (NoRoom swaps left level needed free) = false
 isRefused (Paused swaps left) = false
-isRefused (Refused number place) = true
+isRefused (Refused w) = true
 
 -- a refused run lists nothing
-unfoldable pub printed : Slice → List ℕ → List ℕ → List ℕ → List ℕ
+unfoldable pub printed : RunAnswer → List ℕ → List ℕ → List ℕ → List ℕ
 printed a t r o = answerText a ++ bytes "\n" ++ cond (isRefused a) [] (listing t r o)

@@ -14,7 +14,7 @@ use diagrams::ROOT_SIZE;
 use diagrams::RecordNumber;
 use diagrams::wide;
 use orders::Order;
-use slices::Slice;
+use slices::RunAnswer;
 
 // The most bytes that `print` writes of a full store, with one variable more than an order may have: 21 a record, 6 a root, 4 a
 // variable, and 159 for the first line and the words.
@@ -167,13 +167,13 @@ fn put_need(out: &mut [u8], at: usize, level: usize, needed: usize, free: usize)
     put_named(out, after_needed, b" free ", free)
 }
 
-fn put_answer(out: &mut [u8], answer: Slice) -> usize
+fn put_answer(out: &mut [u8], answer: RunAnswer) -> usize
     requires { ⌜ Room (now out) 0 (answerText answer) ⌝ }
     ensures { λ r. ⌜ Put (now (out .entry)) 0 (answerText answer) (now (out .exit)) r ⌝ }
 {
     match answer {
-        Slice::Done { swaps, left } => put_swaps(out, b"done swaps ", swaps, left),
-        Slice::NoRoom {
+        RunAnswer::Done { swaps, left } => put_swaps(out, b"done swaps ", swaps, left),
+        RunAnswer::NoRoom {
             swaps,
             left,
             level,
@@ -183,36 +183,33 @@ fn put_answer(out: &mut [u8], answer: Slice) -> usize
             let after_swaps = put_swaps(out, b"no room swaps ", swaps, left);
             put_need(out, after_swaps, level, needed, free)
         }
-        Slice::Paused { swaps, left } => put_swaps(out, b"paused swaps ", swaps, left),
-        Slice::Refused { number, place } => {
-            let after_number = put_named(out, 0, b"refused ", wide(number));
-            put_named(out, after_number, b" place ", place)
+        RunAnswer::Paused { swaps, left } => put_swaps(out, b"paused swaps ", swaps, left),
+        RunAnswer::Refused(refusal) => {
+            let after_number = put_named(out, 0, b"refused ", wide(refusal.number));
+            put_named(out, after_number, b" place ", refusal.place)
         }
     }
 }
 
-fn is_refused(answer: Slice) -> bool
+fn is_refused(answer: RunAnswer) -> bool
     ensures { λ b. ⌜ b ≡ isRefused answer ⌝ }
 {
     match answer {
-        Slice::Done { swaps: _, left: _ } => false,
-        Slice::NoRoom {
+        RunAnswer::Done { swaps: _, left: _ } => false,
+        RunAnswer::NoRoom {
             swaps: _,
             left: _,
             level: _,
             needed: _,
             free: _,
         } => false,
-        Slice::Paused { swaps: _, left: _ } => false,
-        Slice::Refused {
-            number: _,
-            place: _,
-        } => true,
+        RunAnswer::Paused { swaps: _, left: _ } => false,
+        RunAnswer::Refused(_) => true,
     }
 }
 
 // All that the program prints, from the first byte of `out` on; how many bytes that is.
-pub fn print(out: &mut [u8], answer: Slice, table: &[u8], roots: &[u8], order: &[u8]) -> usize
+pub fn print(out: &mut [u8], answer: RunAnswer, table: &[u8], roots: &[u8], order: &[u8]) -> usize
     requires { ⌜ (records (now table) ≤ mostRecords) × (roomFor (now table) (now roots) (now order) ≤ length (now out)) ⌝ }
     ensures { λ n. ⌜ Printed (printed answer (now (table .entry)) (now (roots .entry)) (now (order .entry))) (now (out .entry)) (now (out .exit)) n ⌝ }
 {

@@ -17,11 +17,12 @@ use Rattle.diagrams.specs.Lookup.{lookup, node-of, free-of, past-of}
 use Rattle.diagrams.specs.Reduced.{look-plain}
 use Rattle.diagrams.specs.Value.{chosen, met, value}
 use Rattle.diagrams.specs.Falls.{value-terminal}
-use Rattle.checks.specs.Stages.{judge, row-refuses, row-passes, chain}
+use Rattle.checks.specs.Stages.{verdictOf, row-refuses, row-passes, chain}
+use Rattle.checks.specs.declared.Refusal.{Refusal}
 use Rattle.checks.specs.declared.Verdict.the-variants as verdict
 use Rattle.reading.specs.Read.{inputOf, noRoot, readStages, rootValue, readAfter, readOf}
 use Rattle.reading.specs.Parts.{refused-part, no-root-part, constant-part, record-part, root-inside}
-use Rattle.reading.specs.declared.Reading.the-variants.{Value, Refused}
+use Rattle.reading.specs.declared.ReadAnswer.the-variants.{Value, Refused}
 
 -- ---- an input
 
@@ -77,11 +78,11 @@ module _ (t : List ℕ) (inputs : ℕ → Bool) where
 -- ---- what Read answers
 
 module _ (t r o : List ℕ) (position : ℕ) (inputs : List ℕ) where
-  pub read-refuses : (k x : ℕ) → verdict.Refused k x ≡ judge (readStages t r o position inputs) → Refused k x ≡ readOf t r o position inputs
+  pub read-refuses : (w : Refusal) → verdict.Refused w ≡ verdictOf (readStages t r o position inputs) → Refused w ≡ readOf t r o position inputs
   unfolding readOf
-  read-refuses k x e = ap (λ v. readAfter v (rootValue t r o position inputs)) e
+  read-refuses w e = ap (λ v. readAfter v (rootValue t r o position inputs)) e
 
-  pub read-tells : {x m : ℕ} {b : Bool} → verdict.Clear ≡ judge (readStages t r o position inputs) → x ≡ rootAt r position → b ≡ value (lookup t) (inputOf inputs) (length o) x → m ≡ bit b
+  pub read-tells : {x m : ℕ} {b : Bool} → verdict.Clear ≡ verdictOf (readStages t r o position inputs) → x ≡ rootAt r position → b ≡ value (lookup t) (inputOf inputs) (length o) x → m ≡ bit b
       → Value m ≡ readOf t r o position inputs
   unfolding readOf rootValue
   read-tells e p q s = ap Value (s ∙ ap bit (q ∙ ap (value (lookup t) (inputOf inputs) (length o)) p)) ∙ ap (λ v. readAfter v (value (lookup t) (inputOf inputs) (length o) (rootAt r position))) e
@@ -92,7 +93,7 @@ there r position h = sym (lt-leb (rootCount r) position h)
 pub not-there : (r : List ℕ) (position : ℕ) → rootCount r ≤ position → true ≡ noRoot r position
 not-there r position h = sym (le-leb (rootCount r) position h)
 
-pub nothing-more : verdict.Clear ≡ judge []
+pub nothing-more : verdict.Clear ≡ verdictOf []
 nothing-more = refl
 
 pub ruleset reading = (read-refuses, read-tells, row-refuses, row-passes, there, not-there, nothing-more, chain)

@@ -15,25 +15,26 @@ use Rattle.lists.specs.Says.{nowhere, either-side}
 use Rattle.diagrams.specs.Layout.{recordSize, mostRecords, records, rootCount, rootAt, InTable}
 use Rattle.diagrams.specs.Node.{Constant, ref}
 use Rattle.check_records.specs.Meaning.{root-says}
-use Rattle.checks.specs.Stages.{judge, clear-only, row-refuses, row-passes, place-refuses, place-passes}
+use Rattle.checks.specs.Stages.{verdictOf, clear-only, row-refuses, row-passes, place-refuses, place-passes}
 use Rattle.checks.specs.Check.{checkStages, used, answered, checkOf}
 use Rattle.checks.specs.Theorems.{accepts-only}
 use Rattle.checks.specs.Usable.{passes-all}
+use Rattle.checks.specs.declared.Refusal.{Refusal}
 use Rattle.checks.specs.declared.Verdict.{Verdict}
 use Rattle.checks.specs.declared.Verdict.the-variants as verdict
-use Rattle.checks.specs.declared.Answer.the-variants as answer
+use Rattle.checks.specs.declared.CheckAnswer.the-variants as answer
 use Rattle.reading.specs.Read.{noRoot}
 use Rattle.reading.specs.declared.Part.{Part}
 use Rattle.reading.specs.Show.{showStages, shows, noPart, partAt, partOf, ShowOutcome}
 
-module _ (t r o : List ℕ) (position : ℕ) {v : Verdict} (judged : v ≡ judge (checkStages t r o)) where
-  shows-not : {k x : ℕ} → verdict.Refused k x ≡ judge (showStages t r o position) → noPart ≡ partOf t r o position
+module _ (t r o : List ℕ) (position : ℕ) {v : Verdict} (judged : v ≡ verdictOf (checkStages t r o)) where
+  shows-not : {w : Refusal} → verdict.Refused w ≡ verdictOf (showStages t r o position) → noPart ≡ partOf t r o position
   unfolding partOf shows
   shows-not e = rw (← e)
 
-  pub refused-part : (k x : ℕ) → v ≡ verdict.Refused k x → noPart ≡ partOf t r o position
+  pub refused-part : (w : Refusal) → v ≡ verdict.Refused w → noPart ≡ partOf t r o position
   unfolding showStages
-  refused-part k x h = shows-not (row-refuses (checkStages t r o) _ k x judged h)
+  refused-part w h = shows-not (row-refuses (checkStages t r o) _ w judged h)
 
   module _ (clear : v ≡ verdict.Clear) where
     pub no-root-part : rootCount r ≤ position → noPart ≡ partOf t r o position
@@ -41,7 +42,7 @@ module _ (t r o : List ℕ) (position : ℕ) {v : Verdict} (judged : v ≡ judge
     no-root-part l = shows-not (row-passes (checkStages t r o) _ judged clear (place-refuses 10 position (noRoot r position) true verdict.Clear (sym (le-leb (rootCount r) position l)) refl))
 
     module _ {x : ℕ} {b : Bool} (is : x ≡ rootAt r position) (flag : b ≡ ltb x 2) where
-      shows-root : position < rootCount r → verdict.Clear ≡ judge (showStages t r o position)
+      shows-root : position < rootCount r → verdict.Clear ≡ verdictOf (showStages t r o position)
       unfolding showStages
       shows-root l = row-passes (checkStages t r o) _ judged clear (place-passes 10 position (noRoot r position) false verdict.Clear verdict.Clear (sym (lt-leb (rootCount r) position l)) refl refl)
 
@@ -62,7 +63,7 @@ module _ (t r o : List ℕ) (position : ℕ) {v : Verdict} (judged : v ≡ judge
 
 -- a refused table, no such root, or a constant root
 pub data Nothing (t r o : List ℕ) (position : ℕ) : Type 0 where
-  refused-table : (k x : ℕ) → checkOf t r o ≡ answer.Refused k x → Nothing t r o position
+  refused-table : (w : Refusal) → checkOf t r o ≡ answer.Refused w → Nothing t r o position
   no-such-root : rootCount r ≤ position → Nothing t r o position
   constant-root : Constant (rootAt r position) → Nothing t r o position
 
@@ -71,31 +72,31 @@ data Shown (t r o : List ℕ) (position : ℕ) : Type 0 where
   nothing : Nothing t r o position → noPart ≡ partOf t r o position → Shown t r o position
   something : (i : ℕ) → checkOf t r o ≡ answer.Accepted (used t) → position < rootCount r → ref i ≡ rootAt r position → InTable t i → partAt i ≡ partOf t r o position → Shown t r o position
 
-checked-refused : (t r o : List ℕ) (k x : ℕ) → judge (checkStages t r o) ≡ verdict.Refused k x → checkOf t r o ≡ answer.Refused k x
+checked-refused : (t r o : List ℕ) (w : Refusal) → verdictOf (checkStages t r o) ≡ verdict.Refused w → checkOf t r o ≡ answer.Refused w
 unfolding checkOf
-checked-refused t r o k x e = ap (λ v. answered v (used t)) e
+checked-refused t r o w e = ap (λ v. answered v (used t)) e
 
-checked-clear : (t r o : List ℕ) → judge (checkStages t r o) ≡ verdict.Clear → checkOf t r o ≡ answer.Accepted (used t)
+checked-clear : (t r o : List ℕ) → verdictOf (checkStages t r o) ≡ verdict.Clear → checkOf t r o ≡ answer.Accepted (used t)
 unfolding checkOf
 checked-clear t r o e = ap (λ v. answered v (used t)) e
 
 module _ (t r o : List ℕ) (position : ℕ) where
   shown : Shown t r o position
-  shown = go (judge (checkStages t r o)) refl
+  shown = go (verdictOf (checkStages t r o)) refl
     where
-      root : judge (checkStages t r o) ≡ verdict.Clear → position < rootCount r → Shown t r o position
+      root : verdictOf (checkStages t r o) ≡ verdict.Clear → position < rootCount r → Shown t r o position
       root e l =
           either-side (rootAt r position) 2
           (λ c. nothing (constant-root c) (constant-part t r o position refl e refl refl (lt-ltb (rootAt r position) 2 c) l))
           (λ c. let f : ltb (rootAt r position) 2 ≡ false = le-ltb (rootAt r position) 2 c in
           something (rootAt r position - 2) (checked-clear t r o e) l (omega arith) (root-inside t r o position refl e refl refl f refl l) (record-part t r o position refl e refl refl f refl l))
 
-      go : (v : Verdict) → judge (checkStages t r o) ≡ v → Shown t r o position
+      go : (v : Verdict) → verdictOf (checkStages t r o) ≡ v → Shown t r o position
       go verdict.Clear e = either-side position (rootCount r) (root e) (λ l. nothing (no-such-root l) (no-root-part t r o position refl e l))
-      go (verdict.Refused k x) e = nothing (refused-table k x (checked-refused t r o k x e)) (refused-part t r o position refl k x e)
+      go (verdict.Refused w) e = nothing (refused-table w (checked-refused t r o w e)) (refused-part t r o position refl w e)
 
   not-both : (i : ℕ) → checkOf t r o ≡ answer.Accepted (used t) → position < rootCount r → ref i ≡ rootAt r position → Nothing t r o position → ⊥
-  not-both i a l e (refused-table k x f) = apart (cc)
+  not-both i a l e (refused-table w f) = apart (cc)
   not-both i a l e (no-such-root m) = omega arith
   not-both i a l e (constant-root c) = omega arith
 

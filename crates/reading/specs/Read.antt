@@ -10,12 +10,12 @@ use Rattle.lists.specs.Count.{bit}
 use Rattle.diagrams.specs.Layout.{rootCount, rootAt}
 use Rattle.diagrams.specs.Lookup.{lookup}
 use Rattle.diagrams.specs.Value.{value}
-use Rattle.checks.specs.Stages.{Stage, stageAt, judge}
+use Rattle.checks.specs.Stages.{Stage, stageAt, verdictOf}
 use Rattle.checks.specs.Check.{checkStages}
 use Rattle.checks.specs.declared.Verdict.{Verdict}
 use Rattle.checks.specs.declared.Verdict.the-variants as verdict
-use Rattle.reading.specs.declared.Reading.{Reading}
-use Rattle.reading.specs.declared.Reading.the-variants.{Value, Refused}
+use Rattle.reading.specs.declared.ReadAnswer.{ReadAnswer}
+use Rattle.reading.specs.declared.ReadAnswer.the-variants.{Value, Refused}
 
 -- byte v is the input of the variable v, 0 or 1
 unfoldable pub inputOf : List ℕ → ℕ → Bool
@@ -39,18 +39,18 @@ readStages t r o position inputs = checkStages t r o ++ (stageAt 10 position (no
 unfoldable pub rootValue : List ℕ → List ℕ → List ℕ → ℕ → List ℕ → Bool
 rootValue t r o position inputs = value (lookup t) (inputOf inputs) (length o) (rootAt r position)
 
-abbrev pub readAfter : Verdict → Bool → Reading
+abbrev pub readAfter : Verdict → Bool → ReadAnswer
 readAfter verdict.Clear b = Value (bit b)
-readAfter (verdict.Refused number place) b = Refused number place
+readAfter (verdict.Refused w) b = Refused w
 
-unfoldable pub readOf : List ℕ → List ℕ → List ℕ → ℕ → List ℕ → Reading
-readOf t r o position inputs = readAfter (judge (readStages t r o position inputs)) (rootValue t r o position inputs)
+unfoldable pub readOf : List ℕ → List ℕ → List ℕ → ℕ → List ℕ → ReadAnswer
+readOf t r o position inputs = readAfter (verdictOf (readStages t r o position inputs)) (rootValue t r o position inputs)
 
 -- what Read may answer
-abbrev pub ReadOutcome : List ℕ → List ℕ → List ℕ → ℕ → List ℕ → Reading → Type 0
+abbrev pub ReadOutcome : List ℕ → List ℕ → List ℕ → ℕ → List ℕ → ReadAnswer → Type 0
 ReadOutcome t r o position inputs a = a ≡ readOf t r o position inputs
 
 -- the paper's number and values of each answer; 0 stands for a value
-abbrev pub numbers : Reading → List ℕ
+abbrev pub numbers : ReadAnswer → List ℕ
 numbers (Value b) = 0 ∷ b ∷ []
-numbers (Refused number place) = number ∷ place ∷ []
+numbers (Refused w) = w .number ∷ w .place ∷ []

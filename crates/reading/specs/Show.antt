@@ -7,7 +7,7 @@ use mathlib.Core.Path.{_≡_}
 use lib.Dec.{leb}
 use lib.ListN.{take, drop}
 use Rattle.diagrams.specs.Layout.{recordSize, rootAt}
-use Rattle.checks.specs.Stages.{Stage, stageAt, judge}
+use Rattle.checks.specs.Stages.{Stage, stageAt, verdictOf}
 use Rattle.checks.specs.Check.{checkStages}
 use Rattle.checks.specs.declared.Verdict.{Verdict}
 use Rattle.checks.specs.declared.Verdict.the-variants.{Clear, Refused}
@@ -16,14 +16,14 @@ use Rattle.reading.specs.declared.Part.{Part}
 
 abbrev pub isClear : Verdict → Bool
 isClear Clear = true
-isClear (Refused number place) = false
+isClear (Refused w) = false
 
 unfoldable pub showStages : List ℕ → List ℕ → List ℕ → ℕ → List Stage
 showStages t r o position = checkStages t r o ++ (stageAt 10 position (noRoot r position) ∷ [])
 
 -- an accepted table, such a root, and no constant
 unfoldable pub shows : List ℕ → List ℕ → List ℕ → ℕ → Bool
-shows t r o position = isClear (judge (showStages t r o position)) && leb 2 (rootAt r position)
+shows t r o position = isClear (verdictOf (showStages t r o position)) && leb 2 (rootAt r position)
 
 abbrev pub noPart : Part
 noPart = record { 0 = 0; 1 = 0 }

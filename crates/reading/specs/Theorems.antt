@@ -16,16 +16,17 @@ use Rattle.diagrams.specs.Bryant.{Vertex}
 use Rattle.diagrams.specs.Reduced.{look-plain}
 use Rattle.diagrams.specs.Value.{met, value, Value}
 use Rattle.diagrams.specs.Falls.{meets-terminal, value-is}
-use Rattle.checks.specs.Stages.{stageAt, judge, FailsFirst, none, also, only-passed, clear-if, refused-if, refused-only, row-passes}
+use Rattle.checks.specs.Stages.{refusal, stageAt, verdictOf, FailsFirst, none, also, only-passed, clear-if, refused-if, refused-only, row-passes}
 use Rattle.checks.specs.Check.{checkStages}
 use Rattle.checks.specs.Theorems.{Bounded, refusal-small}
 use Rattle.checks.specs.Usable.{Usable, usable-then, all-pass}
+use Rattle.checks.specs.declared.Refusal.{Refusal}
 use Rattle.checks.specs.declared.Verdict.{Verdict}
 use Rattle.checks.specs.declared.Verdict.the-variants as verdict
 use Rattle.reading.specs.Read.{inputOf, noRoot, badInputs, readStages, rootValue, readAfter, readOf, ReadOutcome}
 use Rattle.reading.specs.Show.{ShowOutcome}
-use Rattle.reading.specs.declared.Reading.{Reading}
-use Rattle.reading.specs.declared.Reading.the-variants as reading
+use Rattle.reading.specs.declared.ReadAnswer.{ReadAnswer}
+use Rattle.reading.specs.declared.ReadAnswer.the-variants as reading
 
 -- ---- in a table that the relay can use, the reading of a root meets a constant, for every combination of inputs
 
@@ -54,27 +55,27 @@ module _ (t r o : List ℕ) (usable : Usable t r o) where
 
 -- ---- Read refuses with k at x exactly where check k fails first, at x
 
-read-refused : (v : Verdict) (b : Bool) (k x : ℕ) → readAfter v b ≡ reading.Refused k x → v ≡ verdict.Refused k x
-read-refused verdict.Clear b k x e = apart (cc)
-read-refused (verdict.Refused j y) b k x e = let p : j ≡ k = cc in let q : y ≡ x = cc in rw (p, q)
+read-refused : (v : Verdict) (b : Bool) (w : Refusal) → readAfter v b ≡ reading.Refused w → v ≡ verdict.Refused w
+read-refused verdict.Clear b w e = apart (cc)
+read-refused (verdict.Refused u) b w e = cc
 
 module _ (t r o : List ℕ) (position : ℕ) (inputs : List ℕ) where
-  pub read-refuses : (k x : ℕ) → FailsFirst (readStages t r o position inputs) k x → readOf t r o position inputs ≡ reading.Refused k x
+  pub read-refuses : (k x : ℕ) → FailsFirst (readStages t r o position inputs) k x → readOf t r o position inputs ≡ reading.Refused (refusal k x)
   unfolding readOf
   read-refuses k x f = ap (λ v. readAfter v (rootValue t r o position inputs)) (refused-if (readStages t r o position inputs) k x f)
 
-  pub read-refuses-only : (k x : ℕ) → readOf t r o position inputs ≡ reading.Refused k x → FailsFirst (readStages t r o position inputs) k x
+  pub read-refuses-only : (k x : ℕ) → readOf t r o position inputs ≡ reading.Refused (refusal k x) → FailsFirst (readStages t r o position inputs) k x
   unfolding readOf
-  read-refuses-only k x e = refused-only (readStages t r o position inputs) k x (read-refused (judge (readStages t r o position inputs)) (rootValue t r o position inputs) k x e)
+  read-refuses-only k x e = refused-only (readStages t r o position inputs) k x (read-refused (verdictOf (readStages t r o position inputs)) (rootValue t r o position inputs) (refusal k x) e)
 
-  pub read-place-small : (m k x : ℕ) → mostRecords ≤ m → position < m → readOf t r o position inputs ≡ reading.Refused k x → x < m
+  pub read-place-small : (m k x : ℕ) → mostRecords ≤ m → position < m → readOf t r o position inputs ≡ reading.Refused (refusal k x) → x < m
   unfolding readOf readStages Bounded
   read-place-small m k x g l e =
       refusal-small t r o (stageAt 10 position (noRoot r position) ∷ stageAt 11 0 (badInputs o inputs) ∷ []) m k x g (omega arith, omega arith, (omega arith, omega arith, tt))
-      (read-refused (judge (readStages t r o position inputs)) (rootValue t r o position inputs) k x e) .1
+      (read-refused (verdictOf (readStages t r o position inputs)) (rootValue t r o position inputs) (refusal k x) e) .1
 
   -- one outcome for each input
-  pub read-one : {a b : Reading} → ReadOutcome t r o position inputs a → ReadOutcome t r o position inputs b → a ≡ b
+  pub read-one : {a b : ReadAnswer} → ReadOutcome t r o position inputs a → ReadOutcome t r o position inputs b → a ≡ b
   read-one p q = p ∙ sym q
 
 -- ---- Show

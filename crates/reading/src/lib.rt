@@ -8,15 +8,17 @@ ghost use Rattle.diagrams.specs.Lookup.{lookup};
 ghost use Rattle.diagrams.specs.Value.{chosen, value};
 ghost use Rattle.reading.specs.Read.{inputOf, noInput, badInputs, ReadOutcome};
 ghost use Rattle.reading.specs.Show.{partOf, ShowOutcome};
+use checks::Refusal;
 use checks::Verdict;
 use diagrams::RECORD_SIZE;
 use diagrams::ROOT_SIZE;
 use diagrams::Reference;
 use diagrams::Variable;
 
-pub enum Reading {
+// What Read answers: 0 or 1, or a refusal.
+pub enum ReadAnswer {
     Value(u8),
-    Refused { number: u8, place: usize },
+    Refused(Refusal),
 }
 
 // Where a part of the table begins and ends.
@@ -104,38 +106,35 @@ fn number(b: bool) -> u8
     if b { 1 } else { 0 }
 }
 
-pub fn read(table: &[u8], roots: &[u8], order: &[u8], position: usize, inputs: &[u8]) -> Reading
+pub fn read(table: &[u8], roots: &[u8], order: &[u8], position: usize, inputs: &[u8]) -> ReadAnswer
     ensures { λ a. ⌜ ReadOutcome (now (table .entry)) (now (roots .entry)) (now (order .entry)) position (now (inputs .entry)) a ⌝ }
 {
-    let verdict = checks::judge_all(table, roots, order);
-    if let Verdict::Refused { number, place } = verdict {
-        return Reading::Refused { number, place };
+    let verdict = checks::verdict_of_all(table, roots, order);
+    if let Verdict::Refused(refusal) = verdict {
+        return ReadAnswer::Refused(refusal);
     }
     if roots.len() / ROOT_SIZE <= position {
-        return Reading::Refused {
+        return ReadAnswer::Refused(Refusal {
             number: 10,
             place: position,
-        };
+        });
     }
     if bad_inputs(order, inputs) {
-        return Reading::Refused {
+        return ReadAnswer::Refused(Refusal {
             number: 11,
             place: 0,
-        };
+        });
     }
     let root = diagrams::root(roots, position);
-    Reading::Value(number(reads_true(table, inputs, root, order.len())))
+    ReadAnswer::Value(number(reads_true(table, inputs, root, order.len())))
 }
 
 // Where the record of a root lies in the table; 0 to 0 where there is nothing to show.
-pub fn place(table: &[u8], roots: &[u8], order: &[u8], position: usize) -> Part
+pub fn shown_part(table: &[u8], roots: &[u8], order: &[u8], position: usize) -> Part
     ensures { λ p. ⌜ (p ≡ partOf (now (table .entry)) (now (roots .entry)) (now (order .entry)) position) × ((p .0 ≤ p .1) × (p .1 ≤ length (now (table .entry)))) ⌝ }
 {
-    let verdict = checks::judge_all(table, roots, order);
-    if let Verdict::Refused {
-        number: _,
-        place: _,
-    } = verdict {
+    let verdict = checks::verdict_of_all(table, roots, order);
+    if let Verdict::Refused(_) = verdict {
         return Part(0, 0);
     }
     if roots.len() / ROOT_SIZE <= position {
@@ -152,7 +151,7 @@ pub fn place(table: &[u8], roots: &[u8], order: &[u8], position: usize) -> Part
 pub fn show<'a>(table: &'a [u8], roots: &[u8], order: &[u8], position: usize) -> &'a [u8]
     ensures { λ s. ⌜ ShowOutcome (now (table .entry)) (now (roots .entry)) (now (order .entry)) position (table .entry .ptr) (s .ptr) (now s) ⌝ }
 {
-    let p = place(table, roots, order, position);
+    let p = shown_part(table, roots, order, position);
     let from = p.0;
     let to = p.1;
     &table[from..to]

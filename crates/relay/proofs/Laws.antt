@@ -11,21 +11,22 @@ use Rattle.lists.specs.Copy.{copied, copied-first}
 use Rattle.lists.specs.Fold.{fold, Steps, steps-end}
 use Rattle.checks.specs.Check.{CheckOutcome}
 use Rattle.checks.specs.Theorems.{used-small, check-place-small}
-use Rattle.checks.specs.declared.Answer.{Answer}
-use Rattle.checks.specs.declared.Answer.the-variants as check
+use Rattle.checks.specs.declared.Refusal.{Refusal}
+use Rattle.checks.specs.declared.CheckAnswer.{CheckAnswer}
+use Rattle.checks.specs.declared.CheckAnswer.the-variants as check
 use Rattle.reading.specs.Read.{ReadOutcome}
 use Rattle.reading.specs.Show.{partOf}
 use Rattle.reading.specs.Parts.{part-small}
 use Rattle.reading.specs.Theorems.{read-place-small}
 use Rattle.reading.specs.declared.Part.{Part}
-use Rattle.reading.specs.declared.Reading.{Reading}
-use Rattle.reading.specs.declared.Reading.the-variants as reading
+use Rattle.reading.specs.declared.ReadAnswer.{ReadAnswer}
+use Rattle.reading.specs.declared.ReadAnswer.the-variants as reading
 use Rattle.swaps.specs.Outcome as swap
 use Rattle.swaps.specs.Outcome.{SwapOutcome}
-use Rattle.swaps.specs.declared.Swapping.{Swapping}
+use Rattle.swaps.specs.declared.SwapAnswer.{SwapAnswer}
 use Rattle.slices.specs.Run as run
 use Rattle.slices.specs.Run.{RunOutcome}
-use Rattle.slices.specs.declared.Slice.{Slice}
+use Rattle.slices.specs.declared.RunAnswer.{RunAnswer}
 use Rattle.relay.specs.Written.{Written, written, told}
 use Rattle.relay.specs.Told.{toldSwap, toldRun}
 use Rattle.relay.specs.Fits.{limit, Fits, swap-fits, run-fits}
@@ -56,14 +57,14 @@ module _ {A : Type 0} (numbers : A → List ℕ) (list : List ℕ) {w : Written}
   tells e p q = tells-it e (sym q ∙ p)
 
 module _ (t r o : List ℕ) where
-  pub used-fits : {a : Answer} (n : ℕ) → CheckOutcome t r o a → a ≡ check.Accepted n → n < limit
+  pub used-fits : {a : CheckAnswer} (n : ℕ) → CheckOutcome t r o a → a ≡ check.Accepted n → n < limit
   used-fits n p q = omega (arith, used-small t r o n (sym p ∙ q))
 
-  pub check-place-fits : {a : Answer} (k x : ℕ) → CheckOutcome t r o a → a ≡ check.Refused k x → x < limit
-  check-place-fits k x p q = omega (arith, check-place-small t r o limit k x (omega arith) (sym p ∙ q))
+  pub check-place-fits : {a : CheckAnswer} (f : Refusal) → CheckOutcome t r o a → a ≡ check.Refused f → f .place < limit
+  check-place-fits f p q = omega (arith, check-place-small t r o limit (f .number) (f .place) (omega arith) (sym p ∙ q))
 
-  pub read-place-fits : {a : Reading} (position : ℕ) (inputs : List ℕ) (k x : ℕ) → ReadOutcome t r o position inputs a → a ≡ reading.Refused k x → position < limit → x < limit
-  read-place-fits position inputs k x p q l = read-place-small t r o position inputs limit k x (omega arith) l (sym p ∙ q)
+  pub read-place-fits : {a : ReadAnswer} (position : ℕ) (inputs : List ℕ) (f : Refusal) → ReadOutcome t r o position inputs a → a ≡ reading.Refused f → position < limit → f .place < limit
+  read-place-fits position inputs f p q l = read-place-small t r o position inputs limit (f .number) (f .place) (omega arith) l (sym p ∙ q)
 
   module _ (position : ℕ) {p : Part} (is : p ≡ partOf t r o position) where
     end-fits : p .1 < limit
@@ -89,20 +90,20 @@ pub told-nothing : (most : ℕ) (list t o numbers t′ o′ : List ℕ) → leng
 unfolding told
 told-nothing most list t o numbers t′ o′ h = rw (lt-ltb (length list) most h)
 
-pub told-swap : (list t r o : List ℕ) (k : ℕ) {w : Written} {a : Swapping} {t′ o′ : List ℕ} → SwapOutcome t r o k a t′ o′ → w ≡ written list (swap.numbers a) → 4 ≤ length list
+pub told-swap : (list t r o : List ℕ) (k : ℕ) {w : Written} {a : SwapAnswer} {t′ o′ : List ℕ} → SwapOutcome t r o k a t′ o′ → w ≡ written list (swap.numbers a) → 4 ≤ length list
     → record { written = w; table = t′; order = o′ } ≡ toldSwap list t r o k
 unfolding toldSwap told
 told-swap list t r o k e p h = rw (p, le-ltb (length list) 4 h, ← e)
 
-pub told-run : (list t r o g : List ℕ) (budget : ℕ) {w : Written} {a : Slice} {t′ o′ : List ℕ} → RunOutcome t r o g budget a t′ o′ → w ≡ written list (run.numbers a) → 6 ≤ length list
+pub told-run : (list t r o g : List ℕ) (budget : ℕ) {w : Written} {a : RunAnswer} {t′ o′ : List ℕ} → RunOutcome t r o g budget a t′ o′ → w ≡ written list (run.numbers a) → 6 ≤ length list
     → record { written = w; table = t′; order = o′ } ≡ toldRun list t r o g budget
 unfolding toldRun told
 told-run list t r o g budget e p h = rw (p, le-ltb (length list) 6 h, ← e)
 
-pub swap-told-fits : (t r o : List ℕ) (k : ℕ) {a : Swapping} {t′ o′ : List ℕ} → SwapOutcome t r o k a t′ o′ → k < limit → Fits (swap.numbers a)
+pub swap-told-fits : (t r o : List ℕ) (k : ℕ) {a : SwapAnswer} {t′ o′ : List ℕ} → SwapOutcome t r o k a t′ o′ → k < limit → Fits (swap.numbers a)
 swap-told-fits t r o k e h = rw (← e) at (swap-fits t r o k h)
 
-pub run-told-fits : (t r o g : List ℕ) (budget : ℕ) {a : Slice} {t′ o′ : List ℕ} → RunOutcome t r o g budget a t′ o′ → budget < limit → Fits (run.numbers a)
+pub run-told-fits : (t r o g : List ℕ) (budget : ℕ) {a : RunAnswer} {t′ o′ : List ℕ} → RunOutcome t r o g budget a t′ o′ → budget < limit → Fits (run.numbers a)
 run-told-fits t r o g budget e h = rw (← e) at (run-fits t r o g budget h)
 
 pub swap-nothing : (list t r o : List ℕ) (k : ℕ) → length list < 4 → record { written = record { count = 0; list = list }; table = t; order = o } ≡ toldSwap list t r o k

@@ -8,10 +8,10 @@ ghost use Rattle.slices.specs.Run as run;
 ghost use Rattle.relay.specs.Written.{written};
 ghost use Rattle.relay.specs.Told.{toldSwap, toldRun};
 ghost use Rattle.relay.specs.Fits.{Fits};
-use checks::Answer;
-use reading::Reading;
-use slices::Slice;
-use swaps::Swapping;
+use checks::CheckAnswer;
+use reading::ReadAnswer;
+use slices::RunAnswer;
+use swaps::SwapAnswer;
 
 // The numbers at the front of the list; how many, or 0 where they don't fit.
 fn write(list: &mut [u32], numbers: &[u32]) -> usize
@@ -34,13 +34,13 @@ pub extern "C" fn relay_check(table: &[u8], roots: &[u8], order: &[u8], answer: 
     ensures { λ n. ⌜ record { count = n; list = now (answer .exit) } ≡ written (now (answer .entry)) (check.numbers (check.checkOf (now (table .entry)) (now (roots .entry)) (now (order .entry)))) ⌝ }
 {
     match checks::check(table, roots, order) {
-        Answer::Accepted(used) => {
+        CheckAnswer::Accepted(used) => {
             let numbers = [0u32, used as u32];
             write(answer, &numbers)
         }
-        Answer::Refused { number, place } => {
-            let number = number as u32;
-            let place = place as u32;
+        CheckAnswer::Refused(refusal) => {
+            let number = refusal.number as u32;
+            let place = refusal.place as u32;
             let numbers = [number, place];
             write(answer, &numbers)
         }
@@ -59,15 +59,15 @@ pub extern "C" fn relay_read(
     ensures { λ n. ⌜ record { count = n; list = now (answer .exit) } ≡ written (now (answer .entry)) (read.numbers (read.readOf (now (table .entry)) (now (roots .entry)) (now (order .entry)) position (now (inputs .entry)))) ⌝ }
 {
     match reading::read(table, roots, order, position as usize, inputs) {
-        Reading::Value(value) => {
+        ReadAnswer::Value(value) => {
             let numbers = [0u32, value as u32];
             write(answer, &numbers)
         }
-        Reading::Refused { number, place } => {
-            let number = number as u32;
-            let place = place as u32;
-            let refusal = [number, place];
-            write(answer, &refusal)
+        ReadAnswer::Refused(refusal) => {
+            let number = refusal.number as u32;
+            let place = refusal.place as u32;
+            let told = [number, place];
+            write(answer, &told)
         }
     }
 }
@@ -83,23 +83,23 @@ pub extern "C" fn relay_show(
 ) -> usize
     ensures { λ n. ⌜ record { count = n; list = now (answer .exit) } ≡ written (now (answer .entry)) (show.numbers (show.partOf (now (table .entry)) (now (roots .entry)) (now (order .entry)) position)) ⌝ }
 {
-    let part = reading::place(table, roots, order, position as usize);
+    let part = reading::shown_part(table, roots, order, position as usize);
     let from = part.0 as u32;
     let length = (part.1 - part.0) as u32;
     let numbers = [from, length];
     write(answer, &numbers)
 }
 
-fn tell_swap(answer: &mut [u32], a: Swapping) -> usize
+fn tell_swap(answer: &mut [u32], a: SwapAnswer) -> usize
     requires { ⌜ Fits (swap.numbers a) ⌝ }
     ensures { λ n. ⌜ record { count = n; list = now (answer .exit) } ≡ written (now (answer .entry)) (swap.numbers a) ⌝ }
 {
     match a {
-        Swapping::Made => {
+        SwapAnswer::Made => {
             let numbers = [0u32];
             write(answer, &numbers)
         }
-        Swapping::NoRoom {
+        SwapAnswer::NoRoom {
             level,
             needed,
             free,
@@ -107,8 +107,8 @@ fn tell_swap(answer: &mut [u32], a: Swapping) -> usize
             let numbers = [100u32, level as u32, needed as u32, free as u32];
             write(answer, &numbers)
         }
-        Swapping::Refused { number, place } => {
-            let numbers = [number as u32, place as u32];
+        SwapAnswer::Refused(refusal) => {
+            let numbers = [refusal.number as u32, refusal.place as u32];
             write(answer, &numbers)
         }
     }
@@ -131,16 +131,16 @@ pub extern "C" fn relay_swap(
     tell_swap(answer, a)
 }
 
-fn tell_run(answer: &mut [u32], a: Slice) -> usize
+fn tell_run(answer: &mut [u32], a: RunAnswer) -> usize
     requires { ⌜ Fits (run.numbers a) ⌝ }
     ensures { λ n. ⌜ record { count = n; list = now (answer .exit) } ≡ written (now (answer .entry)) (run.numbers a) ⌝ }
 {
     match a {
-        Slice::Done { swaps, left } => {
+        RunAnswer::Done { swaps, left } => {
             let numbers = [0u32, swaps as u32, left as u32];
             write(answer, &numbers)
         }
-        Slice::NoRoom {
+        RunAnswer::NoRoom {
             swaps,
             left,
             level,
@@ -157,12 +157,12 @@ fn tell_run(answer: &mut [u32], a: Slice) -> usize
             ];
             write(answer, &numbers)
         }
-        Slice::Paused { swaps, left } => {
+        RunAnswer::Paused { swaps, left } => {
             let numbers = [101u32, swaps as u32, left as u32];
             write(answer, &numbers)
         }
-        Slice::Refused { number, place } => {
-            let numbers = [number as u32, place as u32];
+        RunAnswer::Refused(refusal) => {
+            let numbers = [refusal.number as u32, refusal.place as u32];
             write(answer, &numbers)
         }
     }

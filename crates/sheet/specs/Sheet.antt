@@ -10,12 +10,13 @@ use Rattle.lists.specs.Keep.{keep, once, each, which}
 use Rattle.diagrams.specs.Node.{Node, free, node, look}
 use Rattle.diagrams.specs.Decode.{nodeAt, decode, eight, encode}
 use Rattle.diagrams.specs.Lookup.{rootsOf}
-use Rattle.orders.specs.Permutation.{holdsAt, badPlace, levelOf}
+use Rattle.orders.specs.Permutation.{holdsAt, levelOf}
+use Rattle.check_permutation.specs.BadPlace.{badPlace}
 use Rattle.orders.specs.Exchange.{exchange}
 use Rattle.plans.specs.Inversions.{inverted, left}
 use Rattle.plans.specs.Plans.{differsAt, same?, bringUp, nearest}
 use Rattle.check_records.specs.Tests.{badSizes, dead, malformed, notUnder, notBelow, lowIsHigh, sameRecord, repeats, deadRoot, rootNames, recordNames, idle}
-use Rattle.checks.specs.Stages.{only, judged}
+use Rattle.checks.specs.Stages.{only, verdictFrom}
 use Rattle.checks.specs.Check.{tableStages, used}
 use Rattle.swap_rules.specs.Record.{lowOf, highOf, isFreeNode, isOf, same}
 use Rattle.swap_rules.specs.Swap as one
@@ -24,8 +25,8 @@ use Rattle.swaps.specs.Outcome.{tableAfter}
 use Rattle.slices.specs.Slices as over
 use Rattle.slices.specs.Slices.{arrived, next, goes, made, slice}
 use Rattle.slices.specs.Run.{Ran, relay, badRunSizes, runStages, answerOf, ranTo, runOf}
-use Rattle.slices.specs.declared.Slice.{Slice}
-use Rattle.slices.specs.declared.Slice.the-variants.{Done, NoRoom, Paused}
+use Rattle.slices.specs.declared.RunAnswer.{RunAnswer}
+use Rattle.slices.specs.declared.RunAnswer.the-variants.{Done, NoRoom, Paused}
 
 -- the buffers and the budget of a run
 pub record Given : Type 0 where
@@ -38,7 +39,7 @@ pub record Given : Type 0 where
 -- its answer, the records and the order afterwards, and how many records are used then
 pub record Row : Type 0 where
   pub given : Given
-  pub answer : Slice
+  pub answer : RunAnswer
   pub records : List Node
   pub order : List ℕ
   pub used : ℕ
@@ -64,11 +65,11 @@ unfoldable pub expected : Row → Outcome
 expected row = record { ran = record { answer = row .answer; table = encode (row .records); order = row .order }; used = row .used }
 
 -- order 0 1, target 1 0
-unfoldable pub swap : List Node → List ℕ → ℕ → Slice → List Node → List ℕ → ℕ → Row
+unfoldable pub swap : List Node → List ℕ → ℕ → RunAnswer → List Node → List ℕ → ℕ → Row
 swap t r b a t′ o u = record { given = record { records = t; roots = r; order = 0 ∷ 1 ∷ []; target = 1 ∷ 0 ∷ []; budget = b }; answer = a; records = t′; order = o; used = u }
 
 -- no records, no roots
-unfoldable pub orders : List ℕ → List ℕ → ℕ → Slice → List ℕ → Row
+unfoldable pub orders : List ℕ → List ℕ → ℕ → RunAnswer → List ℕ → Row
 orders o g b a o′ = record { given = record { records = []; roots = []; order = o; target = g; budget = b }; answer = a; records = []; order = o′; used = 0 }
 
 unfoldable pub rows : List Row
@@ -102,5 +103,5 @@ rows =
 
 -- every row comes out as the sheet has it
 pub sheet : map outcome rows ≡ map expected rows
-unfolding outcome expected rows swap orders rootBytes nodeAt decode eight encode rootsOf runOf runStages badRunSizes badSizes only judged holdsAt badPlace levelOf tableStages dead malformed notUnder notBelow lowIsHigh sameRecord repeats deadRoot rootNames recordNames idle ranTo answerOf relay slice over.after over.judge made goes next arrived same? differsAt bringUp nearest exchange left inverted pairs total first count tabulate keep once each which look lowOf highOf isFreeNode isOf same grandchild f00 f01 f10 f11 crosses asked stands isNew wanted news names dies slots slotOf X becomes needed freeCount fits turn filled one.after swapped tableAfter
+unfolding outcome expected rows swap orders rootBytes nodeAt decode eight encode rootsOf runOf runStages badRunSizes badSizes only verdictFrom holdsAt badPlace levelOf tableStages dead malformed notUnder notBelow lowIsHigh sameRecord repeats deadRoot rootNames recordNames idle ranTo answerOf relay slice over.after over.judge made goes next arrived same? differsAt bringUp nearest exchange left inverted pairs total first count tabulate keep once each which look lowOf highOf isFreeNode isOf same grandchild f00 f01 f10 f11 crosses asked stands isNew wanted news names dies slots slotOf X becomes needed freeCount fits turn filled one.after swapped tableAfter
 sheet = refl

@@ -21,8 +21,8 @@ use Rattle.orders.specs.Arranged.{bytesOf, Arranged, load-bytes, load-arranged,
 use Rattle.orders.specs.declared.Order.{Order}
 use Rattle.check_records.specs.Meaning.{Sized, sized}
 use Rattle.check_records.specs.Tests.{badSizes}
-use Rattle.checks.specs.Stages as stages
-use Rattle.checks.specs.Stages.{clear-only, chain}
+use Rattle.checks.specs.Stages.{verdictOf, clear-only, chain}
+use Rattle.checks.specs.declared.Refusal.{Refusal}
 use Rattle.checks.specs.declared.Verdict.{Verdict}
 use Rattle.checks.specs.declared.Verdict.the-variants as verdict
 use Rattle.checks.specs.Usable.{Usable}
@@ -34,8 +34,8 @@ use Rattle.slices.specs.Slices as over
 use Rattle.slices.specs.Slices.{slicing-goes, slicing-rests, slicing-ends}
 use Rattle.slices.specs.Run.{State, relay, badRunSizes, runStages, answerOf, ranTo, runJudged, runOf, stateOf, Stepped, Driven}
 use Rattle.slices.specs.Theorems.{run-starts}
-use Rattle.slices.specs.declared.Slice.{Slice}
-use Rattle.slices.specs.declared.Slice.the-variants.{Done, NoRoom, Paused, Refused}
+use Rattle.slices.specs.declared.RunAnswer.{RunAnswer}
+use Rattle.slices.specs.declared.RunAnswer.the-variants.{Done, NoRoom, Paused, Refused}
 use Rattle.slices.specs.declared.Turn.{Turn}
 use Rattle.slices.specs.declared.Reached.{Reached}
 
@@ -91,7 +91,7 @@ module _ (t r : List ℕ) {order goal : Order} {n : ℕ} (h : Arranged order n) 
     y-there : y ≡ yAt (bytesOf order n) (bringUp (bytesOf order n) (bytesOf goal n))
     y-there = y-here ∙ ap (yAt (bytesOf order n)) planned
 
-    fits-now : over.goes (relay r) bringUp (bytesOf goal n) (stateOf t order n) ≡ fitsIn t r x y
+    fits-now : over.goes (relay r) bringUp (bytesOf goal n) (stateOf t order n) ≡ fitsIn t x y
     unfolding over.goes over.arrived over.next relay
     fits-now = rw (sym same ∙ differ, x-there, y-there)
 
@@ -102,12 +102,12 @@ module _ (t r : List ℕ) {order goal : Order} {n : ℕ} (h : Arranged order n) 
     module _ {a : Room} {t′ : List ℕ} (out : RoomOutcome t r x y a t′) where
       pub step-stuck : (m f : ℕ) → a ≡ room.NoRoom m f → Stepped t r order goal n (record { moved = false; order = order }) t′
       step-stuck m f e =
-          let lack : fitsIn t r x y ≡ false = room-lacks t r x y m f (sym e ∙ out .answer) .0 in
+          let lack : fitsIn t x y ≡ false = room-lacks t x y m f (sym e ∙ out .answer) .0 in
           record { moves = sym lack ∙ sym fits-now; to = λ g. true-false (sym g); stays = λ g. out .table ∙ ap (λ z. cond z (tableAfter t r x y) t) lack; arranged = h }
 
       pub step-made : {q : Order} → a ≡ room.Made → q ≡ exchangedOrder order k → Stepped t r order goal n (record { moved = true; order = q }) t′
       step-made {q} e w =
-          let fit : fitsIn t r x y ≡ true = room-fits t r x y (sym e ∙ out .answer) in
+          let fit : fitsIn t x y ≡ true = room-fits t x y (sym e ∙ out .answer) in
           let new : t′ ≡ tableAfter t r x y = out .table ∙ ap (λ z. cond z (tableAfter t r x y) t) fit in
           record {
             moves = sym fit ∙ sym fits-now;
@@ -117,20 +117,20 @@ module _ (t r : List ℕ) {order goal : Order} {n : ℕ} (h : Arranged order n) 
           }
 
     -- ---- the answer, judged on the state left
-    module _ (swaps : ℕ) {l : ℕ} (counted : l ≡ left (bytesOf order n) (bytesOf goal n)) {a : Room} (out : a ≡ roomOf t r x y) where
+    module _ (swaps : ℕ) {l : ℕ} (counted : l ≡ left (bytesOf order n) (bytesOf goal n)) {a : Room} (out : a ≡ roomOf t x y) where
       pub judge-stuck : (m f : ℕ) → a ≡ room.NoRoom m f
           → NoRoom swaps l k m f ≡ answerOf r swaps (left (bytesOf order n) (bytesOf goal n)) (stateOf t order n) (over.judge (relay r) bringUp (bytesOf goal n) (stateOf t order n))
       unfolding answerOf over.judge over.arrived over.next relay
       judge-stuck m f e =
-          let is : roomOf t r (xAt (bytesOf order n) k) (yAt (bytesOf order n) k) ≡ room.NoRoom m f = rw (x-here, y-here) at (sym out ∙ e) in
-          let w = room-lacks t r (xAt (bytesOf order n) k) (yAt (bytesOf order n) k) m f (sym is) in
+          let is : roomOf t (xAt (bytesOf order n) k) (yAt (bytesOf order n) k) ≡ room.NoRoom m f = rw (x-here, y-here) at (sym out ∙ e) in
+          let w = room-lacks t (xAt (bytesOf order n) k) (yAt (bytesOf order n) k) m f (sym is) in
           rw (sym same ∙ differ, ← planned, w .0, ← counted, w .1, w .2)
 
       pub judge-paused : a ≡ room.Made
           → Paused swaps l ≡ answerOf r swaps (left (bytesOf order n) (bytesOf goal n)) (stateOf t order n) (over.judge (relay r) bringUp (bytesOf goal n) (stateOf t order n))
       unfolding answerOf over.judge over.arrived over.next relay
       judge-paused e =
-          let fit : fitsIn t r x y ≡ true = room-fits t r x y (sym e ∙ out) in
+          let fit : fitsIn t x y ≡ true = room-fits t x y (sym e ∙ out) in
           rw (sym same ∙ differ, ← x-there, ← y-there, fit, ← counted)
 
   pub judge-done : (swaps : ℕ) {l : ℕ} → l ≡ left (bytesOf order n) (bytesOf goal n) → b ≡ true
@@ -170,13 +170,13 @@ ran-is : (r g : List ℕ) (budget : ℕ) (s x : State) (swaps : ℕ) → swaps �
 unfolding ranTo over.slice relay
 ran-is r g budget s x swaps e f = rw (e, f)
 
-module _ (t r o g : List ℕ) (budget : ℕ) {v : Verdict} (judged : v ≡ stages.judge (runStages t r o g)) where
+module _ (t r o g : List ℕ) (budget : ℕ) {v : Verdict} (judged : v ≡ verdictOf (runStages t r o g)) where
   run-by : {w : Verdict} → v ≡ w → runJudged t r o g budget w ≡ runOf t r o g budget
   unfolding runOf
   run-by e = ap (runJudged t r o g budget) (sym e ∙ judged)
 
-  pub run-refused : (k x : ℕ) → v ≡ verdict.Refused k x → record { answer = Refused k x; table = t; order = o } ≡ runOf t r o g budget
-  run-refused k x e = run-by e
+  pub run-refused : (f : Refusal) → v ≡ verdict.Refused f → record { answer = Refused f; table = t; order = o } ≡ runOf t r o g budget
+  run-refused f e = run-by e
 
   module _ (clear : v ≡ verdict.Clear) where
     starts : Usable t r o × Permutation g × (length g ≡ length o)
@@ -211,7 +211,7 @@ module _ (t r o g : List ℕ) (budget : ℕ) {v : Verdict} (judged : v ≡ stage
         start-bytes : bytesOf start (length o) ≡ o
         start-bytes = rw start-is (load-bytes o (starts .0 .sizes .few-variables))
 
-        pub run-ran : {end : Reached} {t′ o′ : List ℕ} {a : Slice} → Driven t r start goal (length o) budget end t′ → o′ ≡ bytesOf (end .order) (length o)
+        pub run-ran : {end : Reached} {t′ o′ : List ℕ} {a : RunAnswer} → Driven t r start goal (length o) budget end t′ → o′ ≡ bytesOf (end .order) (length o)
             → a ≡ answerOf r (end .swaps) (left (bytesOf (end .order) (length o)) (bytesOf goal (length o))) (stateOf t′ (end .order) (length o)) (over.judge (relay r) bringUp (bytesOf goal (length o)) (stateOf t′ (end .order) (length o)))
             → record { answer = a; table = t′; order = o′ } ≡ runOf t r o g budget
         run-ran {end} {t′} {o′} {a} d p q =

@@ -11,11 +11,10 @@ use Rattle.orders.specs.Permutation.{ceiling}
 use Rattle.plans.specs.Inversions.{left, left-small}
 use Rattle.plans.specs.Plans.{bringUp, bring-up-within}
 use Rattle.check_records.specs.Meaning.{Sizes}
-use Rattle.checks.specs.Stages as stages
-use Rattle.checks.specs.Stages.{FailsFirst, here, later, passed-only, clear-only, refused-only}
+use Rattle.checks.specs.Stages.{verdictOf, FailsFirst, here, later, passed-only, clear-only, refused-only}
 use Rattle.checks.specs.Check.{tableStages}
 use Rattle.checks.specs.Theorems.{Bounded, refusal-below, table-bounded}
-use Rattle.checks.specs.declared.Verdict as judged
+use Rattle.checks.specs.declared.Verdict.{Verdict}
 use Rattle.checks.specs.declared.Verdict.the-variants as verdict
 use Rattle.swap_rules.specs.Swap.{xAt, yAt}
 use Rattle.swaps.specs.Bounds.{room-small}
@@ -56,20 +55,20 @@ judged-below r g m swaps s big h z = go (over.arrived (relay r) bringUp g s) (re
     go true f = (omega arith, (h, (left-below, tt)))
     go false true = (omega arith, (h, (left-below, tt)))
     go false false =
-        let w = room-small (s .table) r (xAt (s .order) k) (yAt (s .order) k) m big (z .few-records) in
+        let w = room-small (s .table) (xAt (s .order) k) (yAt (s .order) k) m big (z .few-records) in
         (omega arith, (h, (left-below, (omega (arith, bring-up-within (s .order) g, few), (w .0, (w .1, tt))))))
 
 module _ (t r o g : List ℕ) (budget m : ℕ) (big : 2 * mostRecords < m) (fits : budget < m) where
-  ran-below : (v : judged.Verdict) → stages.judge (runStages t r o g) ≡ v → Below m (numbers (runJudged t r o g budget v .answer))
+  ran-below : (v : Verdict) → verdictOf (runStages t r o g) ≡ v → Below m (numbers (runJudged t r o g budget v .answer))
   unfolding ranTo over.slice relay
   ran-below verdict.Clear e =
       let w = run-starts t r o g (clear-only (runStages t r o g) e) in
       let s : State = record { table = t; order = o } in
       judged-below r g m (over.made (relay r) bringUp g budget s) (over.after (relay r) bringUp g budget s) big (omega (arith, over.made-small (relay r) bringUp g budget s)) (good-left t r o g (w .0) (w .1) (w .2) budget .0 .sizes)
-  ran-below (verdict.Refused k x) e =
-      let w = refused-small t r o g m k x (omega arith) (refused-only (runStages t r o g) k x e) in
+  ran-below (verdict.Refused f) e =
+      let w = refused-small t r o g m (f .number) (f .place) (omega arith) (refused-only (runStages t r o g) (f .number) (f .place) e) in
       (w .0, (w .1, tt))
 
   pub run-numbers-small : Below m (numbers (runOf t r o g budget .answer))
   unfolding runOf
-  run-numbers-small = ran-below (stages.judge (runStages t r o g)) refl
+  run-numbers-small = ran-below (verdictOf (runStages t r o g)) refl

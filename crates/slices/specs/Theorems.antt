@@ -1,374 +1,313 @@
--- What Run answers and leaves, over the bytes: one outcome for each input; when it refuses; the table can be used again and every root keeps its value;
--- the fall in left is the number of swaps; slices add up.
+-- What Run answers and leaves, over the bytes, by any lawful plan: one outcome for each input; when it refuses; the table can be used again and every root
+-- keeps its value; the orders are the plan's; what each answer says.
 use Prim.Native.Nat.{ℕ, _+_, _≤_, _<_}
 use mathlib.Core.Bool.{Bool, true, false, not}
-use mathlib.Core.List.{List, [], _∷_, foldr}
+use mathlib.Core.List.{List, _∷_}
 use mathlib.Core.Logic.{_⊎_, inl, inr, ⊎-elim}
 use mathlib.Core.Path.{_≡_, refl, ap, sym, _∙_}
-use native.Mathlib.Nat.{add-zero}
 use native.Mathlib.Omega.{arith}
 use borrow.Author.Tests.{eq-eqb, eqb-true, not-false}
 use lib.Dec.{eqb}
 use lib.ListN.{length}
-use Rattle.lists.specs.Apart.{apart}
-use Rattle.lists.specs.Truth.{or-neither}
-use Rattle.diagrams.specs.Layout.{rootCount, rootAt}
-use Rattle.diagrams.specs.Lookup.{lookup}
-use Rattle.diagrams.specs.Value.{value}
+use Rattle.lists.specs.Says.{Says, says-eqb, refutes, denies, decided}
+use Rattle.lists.specs.Truth.{or-neither, clash}
+use Rattle.diagrams.specs.Layout.{rootCount}
 use Rattle.orders.specs.Permutation.{Permutation, permutation-if, permutation-then}
 use Rattle.orders.specs.Exchange.{length-exchange}
-use Rattle.plans.specs.Inversions.{left}
-use Rattle.plans.specs.Plans.{bringUp, bring-up-lawful, reached, left-zero}
+use Rattle.plans.specs.Inversions.{left, left-same}
+use Rattle.plans.specs.Plans.{Plan, Lawful, reached}
+use Rattle.slice_rules.specs.Slices as over
+use Rattle.slice_rules.specs.Slices.{Relay, RelayLaws, done, meets}
 use Rattle.check_records.specs.Meaning.{Sizes, sizes-if, sizes-then}
 use Rattle.check_records.specs.Tests.{badSizes}
-use Rattle.checks.specs.Stages as stages
-use Rattle.checks.specs.Stages.{AllPass, also, only-passed, passed-only, FailsFirst, clear-if, clear-only, refused-if, refused-only}
-use Rattle.checks.specs.Check.{tableStages, checkStages}
-use Rattle.checks.specs.Usable.{Usable, usable-if, usable-then, all-pass, passes-all}
-use Rattle.checks.specs.declared.Verdict as judged
+use Rattle.checks.specs.Stages.{AllPass, also, only-passed, passed-only, FailsFirst, verdictOf, clear-if, clear-only, refused-if, refused-only}
+use Rattle.checks.specs.Check.{refusal}
+use Rattle.checks.specs.declared.Refusal.{Refusal}
+use Rattle.checks.specs.declared.Verdict.{Verdict}
 use Rattle.checks.specs.declared.Verdict.the-variants as verdict
-use Rattle.swap_rules.specs.Swap.{xAt, yAt}
-use Rattle.swaps.specs.Outcome.{fitsIn, swapOf}
-use Rattle.swaps.specs.Bytes.{Needed, Free, fits-then, unfit-then, swap-usable, swap-root-value, swap-made, swap-lacks}
-use Rattle.swaps.specs.declared.Swapping.the-variants as swapping
-use Rattle.swaps.specs.declared.Swapping.the-variants.{Made}
-use Rattle.slices.specs.Slices as over
-use Rattle.slices.specs.Slices.{Relay, RelayLaws, Judgement, done, noRoom, paused}
+use Rattle.swaps.specs.Outcome.{isClear}
+use Rattle.swaps.specs.declared.Way.{Way}
+use Rattle.swaps.specs.declared.Way.the-variants as way
+use Rattle.swaps.specs.declared.Lack.{Lack}
+use Rattle.swaps.specs.declared.SwapAnswer.the-variants as swap
+use Rattle.slices.specs.OneSwap.{OneSwap}
 use Rattle.slices.specs.Run.{State, relay, badRunSizes, runStages, answerOf, Ran, ranTo, runJudged, runOf, RunOutcome}
-use Rattle.slices.specs.declared.Slice.{Slice}
-use Rattle.slices.specs.declared.Slice.the-variants.{Done, NoRoom, Paused, Refused}
+use Rattle.slices.specs.Answers.{swapsIn, leftIn, answer-swaps, answer-left, answer-done, answer-paused, answer-no-room, answer-not-refused}
+use Rattle.slices.specs.declared.RunAnswer.{RunAnswer}
+use Rattle.slices.specs.declared.RunAnswer.the-variants.{Done, NoRoom, Paused, Refused}
+
+-- ---- what passes Run's checks
+
+pub run-sizes : (t r o g : List ℕ) → badRunSizes t r o g ≡ false → Sizes t r o × (length g ≡ length o)
+unfolding badRunSizes
+run-sizes t r o g e =
+    let w = or-neither (badSizes t r o) (not (eqb (length g) (length o))) e in
+    (sizes-if t r o (w .0), eqb-true (length g) (length o) (not-false (eqb (length g) (length o)) (w .1)))
+
+-- a table that the relay can use, and a permutation of its variables as the target
+pub record Startable (W : OneSwap) (t r o g : List ℕ) : Type 0 where
+  pub usable : W .Usable t r o
+  pub target : Permutation g
+  pub long : length g ≡ length o
+
+module _ (W : OneSwap) (t r o g : List ℕ) where
+  pub run-starts : AllPass (runStages W t r o g) → Startable W t r o g
+  unfolding runStages
+  run-starts (also h (also p (also q rest))) =
+      let w = run-sizes t r o g (passed-only 0 h) in
+      record {
+        usable = W .usable-if t r o (also (only-passed 0 (sizes-then t r o (w .0))) (also p rest));
+        target = permutation-if g q;
+        long = w .1;
+      }
+
+  pub run-passes : Startable W t r o g → AllPass (runStages W t r o g)
+  unfolding runStages badRunSizes
+  run-passes s =
+      let sized : badRunSizes t r o g ≡ false = rw (sizes-then t r o (W .sizes t r o (s .usable)), eq-eqb (length g) (length o) (s .long)) in
+      also (only-passed 0 sized)
+      (also (permutation-then o (W .permutation t r o (s .usable))) (also (permutation-then g (s .target)) (W .usable-passes t r o (s .usable))))
 
 -- ---- the state that a slice drives obeys the laws of a relay
 
 -- a table that the relay can use, of n variables
-abbrev pub Good : List ℕ → ℕ → State → Type 0
-Good r n s = Usable (s .table) r (s .order) × (length (s .order) ≡ n)
+abbrev pub Good : OneSwap → List ℕ → ℕ → State → Type 0
+Good W r n s = W .Usable (s .table) r (s .order) × (length (s .order) ≡ n)
 
-pub relay-laws : (r : List ℕ) (n : ℕ) → RelayLaws (relay r) n (Good r n)
+pub relay-laws : (W : OneSwap) (r : List ℕ) (n : ℕ) → RelayLaws (relay W r) n (Good W r n)
 unfolding relay
-relay-laws r n = record {
-  permutation = λ s w. w .0 .order;
+relay-laws W r n = record {
+  permutation = λ s w. W .permutation (s .table) r (s .order) (w .0);
   long = λ s w. w .1;
-  good-swapped = λ s k w l f. (swap-usable (s .table) r (s .order) k (w .0) (rw (w .1) l) f, length-exchange (s .order) k ∙ w .1);
+  good-swapped = λ s k w l f. (W .usable-after (s .table) r (s .order) k (w .0) (rw (w .1) l) f, length-exchange (s .order) k ∙ w .1);
   order-swapped = λ s k w l f. refl;
 }
 
--- ---- one outcome for each input
+module _ (W : OneSwap) (plan : Plan) (t r o g : List ℕ) where
+  -- one outcome for each input
+  pub run-one : (b : ℕ) {a a′ : RunAnswer} {t₁ t₂ o₁ o₂ : List ℕ}
+      → RunOutcome W plan t r o g b a t₁ o₁ → RunOutcome W plan t r o g b a′ t₂ o₂ → (a ≡ a′) × (t₁ ≡ t₂) × (o₁ ≡ o₂)
+  run-one b p q = (ap (λ (s : Ran). s .answer) (p ∙ sym q), ap (λ (s : Ran). s .table) (p ∙ sym q), ap (λ (s : Ran). s .order) (p ∙ sym q))
 
-pub run-one : (t r o g : List ℕ) (b : ℕ) {a a′ : Slice} {t₁ t₂ o₁ o₂ : List ℕ} → RunOutcome t r o g b a t₁ o₁ → RunOutcome t r o g b a′ t₂ o₂ → (a ≡ a′) × (t₁ ≡ t₂) × (o₁ ≡ o₂)
-run-one t r o g b p q = (ap (λ (s : Ran). s .answer) (p ∙ sym q), ap (λ (s : Ran). s .table) (p ∙ sym q), ap (λ (s : Ran). s .order) (p ∙ sym q))
+  -- Run refuses with k at x exactly where check k fails at x, at no place before it, and every earlier check passes everywhere; it changes nothing then
+  pub run-refuses : (b k x : ℕ) → FailsFirst (runStages W t r o g) k x → runOf W plan t r o g b ≡ record { answer = Refused (refusal k x); table = t; order = o }
+  unfolding runOf
+  run-refuses b k x f = ap (runJudged W plan t r o g b) (refused-if (runStages W t r o g) k x f)
 
--- Run refuses with k at x exactly where check k fails at x, at no place before it, and every earlier check passes everywhere; it changes nothing then
-pub run-refuses : (t r o g : List ℕ) (b k x : ℕ) → FailsFirst (runStages t r o g) k x → runOf t r o g b ≡ record { answer = Refused k x; table = t; order = o }
-unfolding runOf
-run-refuses t r o g b k x f = ap (runJudged t r o g b) (refused-if (runStages t r o g) k x f)
+  pub run-refuses-only : (b k x : ℕ) → runOf W plan t r o g b .answer ≡ Refused (refusal k x) → FailsFirst (runStages W t r o g) k x
+  unfolding runOf ranTo
+  run-refuses-only b k x e = refused-only (runStages W t r o g) k x (go (verdictOf (runStages W t r o g)) e)
+    where
+      go : (v : Verdict) → runJudged W plan t r o g b v .answer ≡ Refused (refusal k x) → v ≡ verdict.Refused (refusal k x)
+      go verdict.Clear q = answer-not-refused _ _ _ (refusal k x) q
+      go (verdict.Refused f) q = let p : f ≡ refusal k x = cc in ap verdict.Refused p
 
-answer-not-refused : {X : Type 0} (r : List ℕ) (m l : ℕ) (s : State) (v : Judgement) (k x : ℕ) → answerOf r m l s v ≡ Refused k x → X
-unfolding answerOf
-answer-not-refused r m l s done k x e = apart (cc)
-answer-not-refused r m l s (noRoom j) k x e = apart (cc)
-answer-not-refused r m l s paused k x e = apart (cc)
+  -- an answer that is no refusal comes from a table that can be used and a target of its variables
+  pub run-startable : (b : ℕ) → ((f : Refusal) → runOf W plan t r o g b .answer ≡ Refused f → ⊥) → Startable W t r o g
+  unfolding runOf
+  run-startable b n = go (verdictOf (runStages W t r o g)) refl n
+    where
+      go : (v : Verdict) → verdictOf (runStages W t r o g) ≡ v → ((f : Refusal) → runJudged W plan t r o g b v .answer ≡ Refused f → ⊥) → Startable W t r o g
+      go verdict.Clear e m = run-starts W t r o g (clear-only (runStages W t r o g) e)
+      go (verdict.Refused f) e m = absurd (m f refl)
 
-ran-not-refused : {X : Type 0} (r : List ℕ) (w : over.SliceOf State) (k x : ℕ) → ranTo r w .answer ≡ Refused k x → X
-unfolding ranTo
-ran-not-refused r w k x e = answer-not-refused r (w .swaps) (w .left) (w .state) (w .judgement) k x e
+-- ---- a run that starts
 
-pub run-refuses-only : (t r o g : List ℕ) (b k x : ℕ) → runOf t r o g b .answer ≡ Refused k x → FailsFirst (runStages t r o g) k x
-unfolding runOf
-run-refuses-only t r o g b k x e = refused-only (runStages t r o g) k x (go (stages.judge (runStages t r o g)) e)
-  where
-    go : (v : judged.Verdict) → runJudged t r o g b v .answer ≡ Refused k x → v ≡ verdict.Refused k x
-    go verdict.Clear e = ran-not-refused r (over.slice (relay r) bringUp g b (record { table = t; order = o })) k x e
-    go (verdict.Refused j y) e = let p : j ≡ k = cc in let q : y ≡ x = cc in rw (p, q)
-
--- ---- the numbers of an answer
-
--- the swaps that an answer tells; a refusal has made none
-abbrev pub swapsIn : Slice → ℕ
-swapsIn (Done swaps left) = swaps
-swapsIn (NoRoom swaps left level needed free) = swaps
-swapsIn (Paused swaps left) = swaps
-swapsIn (Refused number place) = 0
-
-abbrev pub leftIn : Slice → ℕ
-leftIn (Done swaps left) = left
-leftIn (NoRoom swaps left level needed free) = left
-leftIn (Paused swaps left) = left
-leftIn (Refused number place) = 0
-
-answer-swaps : (r : List ℕ) (m l : ℕ) (s : State) (v : Judgement) → swapsIn (answerOf r m l s v) ≡ m
-unfolding answerOf
-answer-swaps r m l s done = refl
-answer-swaps r m l s (noRoom k) = refl
-answer-swaps r m l s paused = refl
-
-answer-left : (r : List ℕ) (m l : ℕ) (s : State) (v : Judgement) → leftIn (answerOf r m l s v) ≡ l
-unfolding answerOf
-answer-left r m l s done = refl
-answer-left r m l s (noRoom k) = refl
-answer-left r m l s paused = refl
-
-answer-done : (r : List ℕ) (m l : ℕ) (s : State) (v : Judgement) (i j : ℕ) → answerOf r m l s v ≡ Done i j → (v ≡ done) × (i ≡ m) × (j ≡ l)
-unfolding answerOf
-answer-done r m l s done i j e = (refl, (cc), (cc))
-answer-done r m l s (noRoom k) i j e = apart (cc)
-answer-done r m l s paused i j e = apart (cc)
-
-answer-paused : (r : List ℕ) (m l : ℕ) (s : State) (v : Judgement) (i j : ℕ) → answerOf r m l s v ≡ Paused i j → (v ≡ paused) × (i ≡ m) × (j ≡ l)
-unfolding answerOf
-answer-paused r m l s done i j e = apart (cc)
-answer-paused r m l s (noRoom k) i j e = apart (cc)
-answer-paused r m l s paused i j e = (refl, (cc), (cc))
-
-answer-no-room : (r : List ℕ) (m l : ℕ) (s : State) (v : Judgement) (i j k n f : ℕ) → answerOf r m l s v ≡ NoRoom i j k n f
-    → (v ≡ noRoom k) × (n ≡ Needed (s .table) r (xAt (s .order) k) (yAt (s .order) k)) × (f ≡ Free (s .table) r (xAt (s .order) k) (yAt (s .order) k))
-unfolding answerOf
-answer-no-room r m l s done i j k n f e = apart (cc)
-answer-no-room r m l s paused i j k n f e = apart (cc)
-answer-no-room r m l s (noRoom q) i j k n f e =
-    let p : q ≡ k = cc in
-    let a : Needed (s .table) r (xAt (s .order) q) (yAt (s .order) q) ≡ n = cc in
-    let b : Free (s .table) r (xAt (s .order) q) (yAt (s .order) q) ≡ f = cc in
-    (ap noRoom p, sym a ∙ ap (λ z. Needed (s .table) r (xAt (s .order) z) (yAt (s .order) z)) p, sym b ∙ ap (λ z. Free (s .table) r (xAt (s .order) z) (yAt (s .order) z)) p)
-
--- ---- two answers as one: the swaps add up, all else is the later one's
-
-abbrev pub more : ℕ → Slice → Slice
-more m (Done swaps left) = Done (m + swaps) left
-more m (NoRoom swaps left level needed free) = NoRoom (m + swaps) left level needed free
-more m (Paused swaps left) = Paused (m + swaps) left
-more m (Refused number place) = Refused number place
-
-abbrev pub joined : Ran → Ran → Ran
-joined w v = record { answer = more (swapsIn (w .answer)) (v .answer); table = v .table; order = v .order }
-
--- a run and more runs, each over the buffers that the one before left
-abbrev pub runsOf : List ℕ → List ℕ → List ℕ → List ℕ → ℕ → List ℕ → Ran
-runsOf t r o g b [] = runOf t r o g b
-runsOf t r o g b (c ∷ rest) = joined (runOf t r o g b) (runsOf (runOf t r o g b .table) r (runOf t r o g b .order) g c rest)
-
-answer-more : (r : List ℕ) (i m l : ℕ) (s : State) (v : Judgement) → more i (answerOf r m l s v) ≡ answerOf r (i + m) l s v
-unfolding answerOf
-answer-more r i m l s done = refl
-answer-more r i m l s (noRoom k) = refl
-answer-more r i m l s paused = refl
-
-ran-join : (r : List ℕ) (w v : over.SliceOf State) → joined (ranTo r w) (ranTo r v) ≡ ranTo r (over.join w v)
-unfolding ranTo over.join
-ran-join r w v =
-    let a : more (swapsIn (answerOf r (w .swaps) (w .left) (w .state) (w .judgement))) (answerOf r (v .swaps) (v .left) (v .state) (v .judgement)) ≡ answerOf r (w .swaps + v .swaps) (v .left) (v .state) (v .judgement) =
-    ap (λ m. more m (answerOf r (v .swaps) (v .left) (v .state) (v .judgement))) (answer-swaps r (w .swaps) (w .left) (w .state) (w .judgement)) ∙ answer-more r (w .swaps) (v .swaps) (v .left) (v .state) (v .judgement) in
-    ap (λ z. record { answer = z; table = v .state .table; order = v .state .order }) a
-
--- ---- the swap that a run makes is Swap's
-
-pub goes-made : (r g : List ℕ) → Permutation g → (s : State) → Good r (length g) s → over.goes (relay r) bringUp g s ≡ true
-    → swapOf (s .table) r (s .order) (over.next (relay r) bringUp g s) ≡ record { answer = Made; table = over.stepped (relay r) bringUp g s .table; order = over.stepped (relay r) bringUp g s .order }
-unfolding relay
-goes-made r g target s w e =
-    let k : ℕ = over.next (relay r) bringUp g s in
-    let level : k + 1 < length (s .order) = over.planned-inversion (relay r) bringUp g (Good r (length g)) (relay-laws r (length g)) bring-up-lawful target s w e .within in
-    swap-made (s .table) r (s .order) k (w .0) level (fits-then (s .table) r (xAt (s .order) k) (yAt (s .order) k) (over.goes-on (relay r) bringUp g s e .1))
-
--- ---- a run of a table that the relay can use, towards a permutation of its variables
-
-table-passes : (t r o : List ℕ) → AllPass (checkStages t r o) → AllPass (tableStages t r o)
-unfolding checkStages
-table-passes t r o (also h (also p rest)) = rest
-
-module _ (t r o g : List ℕ) (usable : Usable t r o) (target : Permutation g) (long : length g ≡ length o) where
+module _ (W : OneSwap) (plan : Plan) (lawful : Lawful plan) (t r o g : List ℕ) (starts : Startable W t r o g) where
   abbrev s₀ : State
   s₀ = record { table = t; order = o }
 
-  abbrev R : Relay State
-  R = relay r
+  abbrev R : Relay State Way
+  R = relay W r
 
-  sizes-pass : badRunSizes t r o g ≡ false
-  unfolding badRunSizes
-  sizes-pass = rw (sizes-then t r o (usable .sizes), eq-eqb (length g) (length o) long)
+  abbrev ran : ℕ → Ran
+  ran b = runOf W plan t r o g b
 
-  run-clear : stages.judge (runStages t r o g) ≡ verdict.Clear
-  unfolding runStages
-  run-clear =
-      clear-if _
-      (also (only-passed 0 sizes-pass) (also (permutation-then o (usable .order)) (also (permutation-then g target) (table-passes t r o (all-pass t r o (usable-then t r o usable))))))
+  -- the state that the slice leaves
+  abbrev end : ℕ → State
+  end b = over.leaves R plan g b s₀
 
   -- every check passes: the run is the slice
-  pub run-is : (b : ℕ) → runOf t r o g b ≡ ranTo r (over.slice R bringUp g b s₀)
+  pub run-is : (b : ℕ) → runOf W plan t r o g b ≡ ranTo (over.slice R plan g b s₀)
   unfolding runOf
-  run-is b = ap (runJudged t r o g b) run-clear
+  run-is b = ap (runJudged W plan t r o g b) (clear-if (runStages W t r o g) (run-passes W t r o g starts))
 
-  good-start : Good r (length g) s₀
-  good-start = (usable, sym long)
+  good-start : Good W r (length g) s₀
+  good-start = (starts .usable, sym (starts .long))
 
-  laws : RelayLaws R (length g) (Good r (length g))
-  laws = relay-laws r (length g)
+  laws : RelayLaws R (length g) (Good W r (length g))
+  laws = relay-laws W r (length g)
 
-  -- the buffers left are the state that the slice leaves
-  pub run-table : (b : ℕ) → runOf t r o g b .table ≡ over.after R bringUp g b s₀ .table
+  good-end : (b : ℕ) → Good W r (length g) (end b)
+  good-end b = over.good-after R plan g (Good W r (length g)) laws lawful (starts .target) b s₀ good-start
+
+  pub run-state : (b : ℕ) → record { table = ran b .table; order = ran b .order } ≡ end b
   unfolding ranTo over.slice
-  run-table b = ap (λ (w : Ran). w .table) (run-is b)
+  run-state b = ap (λ (w : Ran). record { table = w .table; order = w .order }) (run-is b)
 
-  pub run-order : (b : ℕ) → runOf t r o g b .order ≡ over.after R bringUp g b s₀ .order
-  unfolding ranTo over.slice
-  run-order b = ap (λ (w : Ran). w .order) (run-is b)
+  run-table : (b : ℕ) → ran b .table ≡ end b .table
+  run-table b = ap (λ (s : State). s .table) (run-state b)
 
-  pub good-left : (b : ℕ) → Good r (length g) (over.after R bringUp g b s₀)
-  good-left b = over.good-after R bringUp g (Good r (length g)) laws bring-up-lawful target b s₀ good-start
+  run-order : (b : ℕ) → ran b .order ≡ end b .order
+  run-order b = ap (λ (s : State). s .order) (run-state b)
 
-  -- ---- the table left can be used again, and every root keeps its value
+  -- ---- the table left can be used again, and the order has as many variables
 
-  pub run-usable : (b : ℕ) → Usable (runOf t r o g b .table) r (runOf t r o g b .order)
-  run-usable b = rw (run-table b, run-order b) (good-left b .0)
+  pub run-usable : (b : ℕ) → W .Usable (ran b .table) r (ran b .order)
+  run-usable b = rw (run-table b, run-order b) (good-end b .0)
 
-  pub run-long : (b : ℕ) → length (runOf t r o g b .order) ≡ length o
-  run-long b = ap length (run-order b) ∙ good-left b .1 ∙ long
+  pub run-long : (b : ℕ) → length (ran b .order) ≡ length o
+  run-long b = ap length (run-order b) ∙ good-end b .1 ∙ starts .long
 
-  pub run-permutation : (b : ℕ) → Permutation (runOf t r o g b .order)
-  run-permutation b = run-usable b .order
+  -- so another run can start there
+  pub run-restarts : (b : ℕ) → Startable W (ran b .table) r (ran b .order) g
+  run-restarts b = record { usable = run-usable b; target = starts .target; long = starts .long ∙ sym (run-long b) }
 
-  -- the orders are the plan's, by the swaps made
-  pub run-orders : (b : ℕ) → runOf t r o g b .order ≡ reached bringUp g (over.made R bringUp g b s₀) o
+  -- ---- the swap of a state on the way
+
+  -- where the order isn't the target, the plan's next pair of levels is in the order
+  next-inside : (s : State) → Good W r (length g) s → over.arrived R plan g s ≡ false → over.next R plan g s + 1 < length (s .order)
   unfolding relay
-  run-orders b = run-order b ∙ over.planned R bringUp g (Good r (length g)) laws bring-up-lawful target b s₀ good-start
+  next-inside s w e = over.next-inversion R plan g (Good W r (length g)) laws lawful (starts .target) s w e .within
+
+  -- each swap that a run makes is Swap's
+  pub goes-made : (s : State) → Good W r (length g) s → over.goes R plan g s ≡ true
+      → W .swapOf (s .table) r (s .order) (over.next R plan g s)
+      ≡ record { answer = swap.Made; table = over.stepped R plan g s .table; order = over.stepped R plan g s .order }
+  unfolding relay
+  goes-made s w e =
+      let (a, f) = over.goes-on R plan g s e in
+      W .swap-clear (s .table) r (s .order) (over.next R plan g s) (w .0) (next-inside s w a) f
 
   -- what holds of every root, of a state on the way
   abbrev Keeps : State → Type 0
-  Keeps s = Good r (length g) s × ((inputs : ℕ → Bool) (position : ℕ) → position < rootCount r → value (lookup (s .table)) inputs (length g) (rootAt r position) ≡ value (lookup t) inputs (length g) (rootAt r position))
+  Keeps s =
+      Good W r (length g) s
+      × ((inputs : ℕ → Bool) (position : ℕ) → position < rootCount r
+      → W .rootValue (s .table) r (length g) inputs position ≡ W .rootValue t r (length g) inputs position)
 
-  keeps-stepped : (s : State) → Keeps s → over.goes R bringUp g s ≡ true → Keeps (over.stepped R bringUp g s)
+  keeps-stepped : (s : State) → Keeps s → over.goes R plan g s ≡ true → Keeps (over.stepped R plan g s)
   unfolding relay
   keeps-stepped s w e =
-      let k : ℕ = over.next R bringUp g s in
-      let fit : fitsIn (s .table) r (xAt (s .order) k) (yAt (s .order) k) ≡ true = over.goes-on R bringUp g s e .1 in
-      let level : k + 1 < length (s .order) = over.planned-inversion R bringUp g (Good r (length g)) laws bring-up-lawful target s (w .0) e .within in
-      (laws .good-swapped s k (w .0) (rw (w .0 .1) at level) fit, λ inputs position b. (rw (w .0 .1) at (swap-root-value (s .table) r (s .order) k (w .0 .0) level fit inputs position b)) ∙ w .1 inputs position b)
-
-  keeps-left : (b : ℕ) → Keeps (over.after R bringUp g b s₀)
-  keeps-left b = over.carried R bringUp g Keeps keeps-stepped b s₀ (good-start, λ inputs position l. refl)
+      let k : ℕ = over.next R plan g s in
+      let (a, f) = over.goes-on R plan g s e in
+      let level : k + 1 < length (s .order) = next-inside s (w .0) a in (
+        laws .good-swapped s k (w .0) (rw (w .0 .1) at level) f,
+        λ inputs position b. (rw (w .0 .1) at (W .value-after (s .table) r (s .order) k (w .0 .0) level f inputs position b)) ∙ w .1 inputs position b,
+      )
 
   -- every root keeps its value for every combination
   pub run-root-value : (b : ℕ) (inputs : ℕ → Bool) (position : ℕ) → position < rootCount r
-      → value (lookup (runOf t r o g b .table)) inputs (length o) (rootAt r position) ≡ value (lookup t) inputs (length o) (rootAt r position)
-  run-root-value b inputs position l = rw (run-table b, ← long) (keeps-left b .1 inputs position l)
+      → W .rootValue (ran b .table) r (length o) inputs position ≡ W .rootValue t r (length o) inputs position
+  run-root-value b inputs position l =
+      rw (run-table b, ← starts .long) (over.carried R plan g Keeps keeps-stepped b s₀ (good-start, λ inputs position l. refl) .1 inputs position l)
 
   -- ---- the numbers
 
-  pub run-swaps : (b : ℕ) → swapsIn (runOf t r o g b .answer) ≡ over.made R bringUp g b s₀
+  run-made : (b : ℕ) → swapsIn (ran b .answer) ≡ over.made R plan g b s₀
   unfolding ranTo over.slice
-  run-swaps b = ap (λ (w : Ran). swapsIn (w .answer)) (run-is b) ∙ answer-swaps r _ _ _ _
+  run-made b = ap (λ (w : Ran). swapsIn (w .answer)) (run-is b) ∙ answer-swaps _ _ _
+
+  -- the order is the plan's, after exactly as many swaps as the answer says
+  pub run-orders : (b : ℕ) → ran b .order ≡ reached plan g (swapsIn (ran b .answer)) o
+  unfolding relay
+  run-orders b = run-order b ∙ over.planned R plan g (Good W r (length g)) laws lawful (starts .target) b s₀ good-start ∙ rw (run-made b)
+
+  -- no more swaps than the budget
+  pub run-within : (b : ℕ) → swapsIn (ran b .answer) ≤ b
+  run-within b = rw (run-made b) (over.made-small R plan g b s₀)
 
   -- left is that of the order left
-  pub run-left : (b : ℕ) → leftIn (runOf t r o g b .answer) ≡ left (runOf t r o g b .order) g
+  pub run-left : (b : ℕ) → leftIn (ran b .answer) ≡ left (ran b .order) g
   unfolding ranTo over.slice relay
-  run-left b = ap (λ (w : Ran). leftIn (w .answer)) (run-is b) ∙ answer-left r _ _ _ _ ∙ ap (λ p. left p g) (sym (run-order b))
+  run-left b = ap (λ (w : Ran). leftIn (w .answer)) (run-is b) ∙ answer-left _ _ _ ∙ ap (λ p. left p g) (sym (run-order b))
 
   -- the fall in left is the number of swaps
-  pub run-fall : (b : ℕ) → left (runOf t r o g b .order) g + swapsIn (runOf t r o g b .answer) ≡ left o g
+  pub run-fall : (b : ℕ) → left (ran b .order) g + swapsIn (ran b .answer) ≡ left o g
   unfolding relay
-  run-fall b = rw (run-order b, run-swaps b) (over.fall R bringUp g (Good r (length g)) laws bring-up-lawful target b s₀ good-start)
+  run-fall b = rw (run-order b, run-made b) (over.fall R plan g (Good W r (length g)) laws lawful (starts .target) b s₀ good-start)
 
-  -- a run that is done has made as many swaps as there were inversions, and has reached the target
-  pub run-done : (b m l : ℕ) → runOf t r o g b .answer ≡ Done m l → (m ≡ left o g) × (l ≡ 0) × (runOf t r o g b .order ≡ g)
+  -- ---- each answer, judged on the buffers left
+
+  -- what stands in the way of the plan's next swap of the buffers left
+  abbrev met : ℕ → Way
+  met b = W .wayOf (ran b .table) r (ran b .order) (plan (ran b .order) g)
+
+  run-judged : (b : ℕ) → ran b .answer ≡ answerOf (swapsIn (ran b .answer)) (left (ran b .order) g) (over.judge R plan g (end b))
   unfolding ranTo over.slice relay
+  run-judged b = ap (λ (w : Ran). w .answer) (run-is b) ∙ rw (run-made b, run-order b)
+
+  arrived-says : (b : ℕ) → Says (over.arrived R plan g (end b)) (ran b .order ≡ g)
+  unfolding relay
+  arrived-says b = rw (run-order b) (over.arrived-says R plan g (Good W r (length g)) laws lawful (starts .target) (end b) (good-end b))
+
+  -- it is done where the order left is the target
+  pub run-arrives : (b : ℕ) → ran b .order ≡ g → ran b .answer ≡ Done (swapsIn (ran b .answer)) 0
+  unfolding answerOf
+  run-arrives b e =
+      run-judged b
+      ∙ ap (answerOf (swapsIn (ran b .answer)) (left (ran b .order) g)) (over.arrived-done R plan g (end b) (arrived-says b .no e))
+      ∙ ap (Done (swapsIn (ran b .answer))) (ap (λ p. left p g) e ∙ left-same g)
+
+  meets-met : (b : ℕ) → (ran b .order ≡ g → ⊥) → over.judge R plan g (end b) ≡ meets (met b)
+  unfolding over.next relay
+  meets-met b n = over.meets-next R plan g (end b) (denies (arrived-says b) n) ∙ rw (run-table b, run-order b)
+
+  -- otherwise the answer is what stands in the way of the plan's next swap
+  pub run-meets : (b : ℕ) → (ran b .order ≡ g → ⊥) → ran b .answer ≡ answerOf (swapsIn (ran b .answer)) (left (ran b .order) g) (meets (met b))
+  run-meets b n = run-judged b ∙ ap (answerOf (swapsIn (ran b .answer)) (left (ran b .order) g)) (meets-met b n)
+
+  -- a judgement of the state left, as the buffers have it
+  met-only : (b : ℕ) (w : Way) → over.judge R plan g (end b) ≡ meets w → (ran b .order ≡ g → ⊥) × (met b ≡ w)
+  unfolding over.next relay
+  met-only b w e =
+      let (a, q) = over.meets-only R plan g (end b) w e in
+      (refutes (arrived-says b) a, sym (q ∙ rw (run-table b, run-order b)))
+
+  -- done: the target is reached, and as many swaps were made as there were inversions
+  pub run-done : (b m l : ℕ) → ran b .answer ≡ Done m l → (ran b .order ≡ g) × (m ≡ left o g) × (l ≡ 0)
   run-done b m l e =
-      let w = answer-done r _ _ _ _ m l (sym (ap (λ (w : Ran). w .answer) (run-is b)) ∙ e) in
-      let n : over.made R bringUp g b s₀ ≡ left o g = over.done-all R bringUp g (Good r (length g)) laws bring-up-lawful target b s₀ good-start (w .0) in
-      let z : left (runOf t r o g b .order) g ≡ 0 = omega (arith, run-fall b, run-swaps b) in
-      (w .1 ∙ n, w .2 ∙ ap (λ p. left p g) (sym (run-order b)) ∙ z, left-zero (runOf t r o g b .order) g (run-permutation b) target (run-long b ∙ sym long) z)
+      let (j, p, q) = answer-done _ _ _ m l (sym (run-judged b) ∙ e) in
+      let order : ran b .order ≡ g = arrived-says b .yes (over.done-arrived R plan g (end b) j) in
+      let none : left (ran b .order) g ≡ 0 = ap (λ x. left x g) order ∙ left-same g in
+      (order, omega (arith, p, none, run-fall b), q ∙ none)
 
-  -- a paused run has made exactly its budget of swaps
-  pub run-paused : (b m l : ℕ) → runOf t r o g b .answer ≡ Paused m l → m ≡ b
-  unfolding ranTo over.slice
+  -- no room: the target isn't reached, and the plan's next swap lacks room, by these numbers
+  pub run-lacks : (b m l : ℕ) (lack : Lack) → ran b .answer ≡ NoRoom m l lack → (ran b .order ≡ g → ⊥) × (met b ≡ way.NoRoom lack)
+  run-lacks b m l lack e =
+      let (j, p, q) = answer-no-room _ _ _ m l lack (sym (run-judged b) ∙ e) in
+      met-only b (way.NoRoom lack) j
+
+  -- and then Swap, asked for that swap of the buffers left, answers the same and changes nothing
+  pub run-lacks-swap : (b m l : ℕ) (lack : Lack) → ran b .answer ≡ NoRoom m l lack
+      → W .swapOf (ran b .table) r (ran b .order) (plan (ran b .order) g) ≡ record { answer = swap.NoRoom lack; table = ran b .table; order = ran b .order }
+  unfolding over.next relay
+  run-lacks-swap b m l lack e =
+      let (n, w) = run-lacks b m l lack e in
+      let level = rw (run-order b) (next-inside (end b) (good-end b) (denies (arrived-says b) n)) in
+      W .swap-stuck (ran b .table) r (ran b .order) (plan (ran b .order) g) (run-usable b) level lack w
+
+  -- paused: the target isn't reached, nothing stands in the way of the plan's next swap, and exactly the budget of swaps was made
+  pub run-paused : (b m l : ℕ) → ran b .answer ≡ Paused m l → (ran b .order ≡ g → ⊥) × (met b ≡ way.Clear) × (m ≡ b)
+  unfolding relay
   run-paused b m l e =
-      let w = answer-paused r _ _ _ _ m l (sym (ap (λ (w : Ran). w .answer) (run-is b)) ∙ e) in
-      w .1 ∙ over.paused-budget R bringUp g b s₀ (w .0)
-
-  -- a run without room names the plan's next swap, and Swap answers the same of the buffers left
-  pub run-lacks : (b m l k n f : ℕ) → runOf t r o g b .answer ≡ NoRoom m l k n f
-      → (k ≡ bringUp (runOf t r o g b .order) g) × (swapOf (runOf t r o g b .table) r (runOf t r o g b .order) k ≡ record { answer = swapping.NoRoom k n f; table = runOf t r o g b .table; order = runOf t r o g b .order })
-  unfolding ranTo over.slice over.next relay
-  run-lacks b m l k n f e =
-      let s : State = over.after R bringUp g b s₀ in
-      let w = answer-no-room r _ _ _ _ m l k n f (sym (ap (λ (w : Ran). w .answer) (run-is b)) ∙ e) in
-      let u = over.stuck R bringUp g s k (w .0) in
-      let level : k + 1 < length (s .order) = rw (u .1) (over.next-inversion R bringUp g (Good r (length g)) laws bring-up-lawful target s (good-left b) (u .0) .within) in
-      let lack : Free (s .table) r (xAt (s .order) k) (yAt (s .order) k) < Needed (s .table) r (xAt (s .order) k) (yAt (s .order) k) = unfit-then (s .table) r (xAt (s .order) k) (yAt (s .order) k) (u .2) in
-      (rw (run-order b) (u .1), rw (run-table b, run-order b, w .1, w .2) (swap-lacks (s .table) r (s .order) k (good-left b .0) level lack))
+      let (j, p, q) = answer-paused _ _ _ m l (sym (run-judged b) ∙ e) in
+      let (n, w) = met-only b way.Clear j in
+      (n, w, p ∙ run-made b ∙ over.paused-budget R plan g b s₀ way.Clear j refl)
 
   -- each run spends its whole budget or ends in done or no room
-  pub run-spends : (b : ℕ) → (swapsIn (runOf t r o g b .answer) ≡ b) ⊎ ((m l : ℕ) → runOf t r o g b .answer ≡ Paused m l → ⊥)
-  unfolding ranTo over.slice
-  run-spends b =
-      ⊎-elim
-      (λ q. inl (run-swaps b ∙ q))
-      (λ w. inr (λ m l e. over.ended-not-paused R bringUp g (over.after R bringUp g b s₀) w (answer-paused r _ _ _ _ m l (sym (ap (λ (w : Ran). w .answer) (run-is b)) ∙ e) .0)))
-      (over.spends R bringUp g b s₀)
+  pub run-spends : (b : ℕ) → (swapsIn (ran b .answer) ≡ b) ⊎ ((m l : ℕ) → ran b .answer ≡ Paused m l → ⊥)
+  run-spends b = go (decided (says-eqb (swapsIn (ran b .answer)) b))
+    where
+      go : (swapsIn (ran b .answer) ≡ b) ⊎ (swapsIn (ran b .answer) ≡ b → ⊥) → (swapsIn (ran b .answer) ≡ b) ⊎ ((m l : ℕ) → ran b .answer ≡ Paused m l → ⊥)
+      go (inl q) = inl q
+      go (inr n) = inr (λ m l e. n (ap swapsIn e ∙ run-paused b m l e .2))
 
   -- with a budget of at least left a run is never paused
-  pub run-enough : (b m l : ℕ) → left o g ≤ b → runOf t r o g b .answer ≡ Paused m l → ⊥
-  unfolding ranTo over.slice relay
+  pub run-enough : (b m l : ℕ) → left o g ≤ b → ran b .answer ≡ Paused m l → ⊥
+  unfolding relay
   run-enough b m l h e =
-      let w = answer-paused r _ _ _ _ m l (sym (ap (λ (w : Ran). w .answer) (run-is b)) ∙ e) in
-      over.ended-not-paused R bringUp g (over.after R bringUp g b s₀) (over.enough R bringUp g (Good r (length g)) laws bring-up-lawful target b s₀ good-start h) (w .0)
-
--- ---- what passes Run's checks
-
-module _ (t r o g : List ℕ) where
-  pub run-sizes : badRunSizes t r o g ≡ false → Sizes t r o × (length g ≡ length o)
-  unfolding badRunSizes
-  run-sizes e =
-      let w = or-neither (badSizes t r o) (not (eqb (length g) (length o))) e in
-      (sizes-if t r o (w .0), eqb-true (length g) (length o) (not-false (eqb (length g) (length o)) (w .1)))
-
-  -- a run that isn't refused starts from a table that the relay can use, towards a permutation of its variables
-  pub run-starts : AllPass (runStages t r o g) → Usable t r o × Permutation g × (length g ≡ length o)
-  unfolding runStages checkStages
-  run-starts (also h (also p (also q rest))) =
-      let w = run-sizes (passed-only 0 h) in
-      (usable-if t r o (passes-all t r o (also (only-passed 0 (sizes-then t r o (w .0))) (also p rest))), permutation-if g q, w .1)
-
-  -- a refused run changes nothing, and so is refused again, whatever the budget
-  run-again : (k x : ℕ) → stages.judge (runStages t r o g) ≡ verdict.Refused k x → (b : ℕ) → runOf t r o g b ≡ record { answer = Refused k x; table = t; order = o }
-  unfolding runOf
-  run-again k x e b = ap (runJudged t r o g b) e
-
--- ---- slices add up
-
-module _ (t r o g : List ℕ) (usable : Usable t r o) (target : Permutation g) (long : length g ≡ length o) where
-  abbrev S : ℕ → State → over.SliceOf State
-  S = over.slice (relay r) bringUp g
-
-  abbrev s₁ : State
-  s₁ = record { table = t; order = o }
-
-  -- the run after a run is the slice from the state that the first one left
-  run-next : (a b : ℕ) → runOf (runOf t r o g a .table) r (runOf t r o g a .order) g b ≡ ranTo r (S b (S a s₁ .state))
-  unfolding over.slice
-  run-next a b =
-      run-is (runOf t r o g a .table) r (runOf t r o g a .order) g (run-usable t r o g usable target long a) target (long ∙ sym (run-long t r o g usable target long a)) b
-      ∙ rw (run-table t r o g usable target long a, run-order t r o g usable target long a)
-
-  -- over the slices themselves
-  run-join : (a b : ℕ) → ranTo r (over.join (S a s₁) (S b (S a s₁ .state))) ≡ runOf t r o g (a + b)
-  run-join a b = ap (ranTo r) (over.slice-add (relay r) bringUp g a b s₁) ∙ sym (run-is t r o g usable target long (a + b))
-
-  add-usable : (a b : ℕ) → joined (runOf t r o g a) (runOf (runOf t r o g a .table) r (runOf t r o g a .order) g b) ≡ runOf t r o g (a + b)
-  add-usable a b =
-      ap (joined (runOf t r o g a)) (run-next a b)
-      ∙ ap (λ w. joined w (ranTo r (S b (S a s₁ .state)))) (run-is t r o g usable target long a)
-      ∙ ran-join r (S a s₁) (S b (S a s₁ .state))
-      ∙ run-join a b
-
--- two runs are one with the sum of their budgets, whatever the bytes
-pub run-add : (t r o g : List ℕ) (a b : ℕ) → joined (runOf t r o g a) (runOf (runOf t r o g a .table) r (runOf t r o g a .order) g b) ≡ runOf t r o g (a + b)
-run-add t r o g a b = go (stages.judge (runStages t r o g)) refl
-  where
-    go : (v : judged.Verdict) → stages.judge (runStages t r o g) ≡ v → joined (runOf t r o g a) (runOf (runOf t r o g a .table) r (runOf t r o g a .order) g b) ≡ runOf t r o g (a + b)
-    go verdict.Clear e = let w = run-starts t r o g (clear-only (runStages t r o g) e) in add-usable t r o g (w .0) (w .1) (w .2) a b
-    go (verdict.Refused k x) e = rw (run-again t r o g k x e a, run-again t r o g k x e b, run-again t r o g k x e (a + b))
-
--- any number of runs are one with the sum of their budgets
-pub run-slices : (t r o g : List ℕ) (b : ℕ) (rest : List ℕ) → runsOf t r o g b rest ≡ runOf t r o g (b + foldr _+_ 0 rest)
-run-slices t r o g b [] = ap (runOf t r o g) (sym (add-zero b))
-run-slices t r o g b (c ∷ rest) = ap (joined (runOf t r o g b)) (run-slices (runOf t r o g b .table) r (runOf t r o g b .order) g c rest) ∙ run-add t r o g b (c + foldr _+_ 0 rest)
+      let (j, p, q) = answer-paused _ _ _ m l (sym (run-judged b) ∙ e) in
+      let (a, w) = over.meets-only R plan g (end b) way.Clear j in
+      let still = over.enough R plan g (Good W r (length g)) laws lawful (starts .target) b s₀ good-start h in
+      clash (over.goes-if R plan g (end b) a (ap isClear (sym w))) still

@@ -4,14 +4,16 @@ ghost use Rattle.orders.specs.Arranged.{Arranged, bytesOf};
 ghost use Rattle.plans.specs.BringUp.{bringUp};
 ghost use Rattle.plans.specs.Inversions.{left};
 ghost use Rattle.check_records.specs.Meaning.{Sized};
-ghost use Rattle.checks.specs.Stages as stages;
+ghost use Rattle.checks.specs.Stages.{verdictOf};
 ghost use Rattle.slices.specs.Slices as over;
 ghost use Rattle.slices.specs.Run.{badRunSizes, runStages, relay, answerOf, stateOf, Stepped, Driven, RunOutcome};
+use checks::Refusal;
 use checks::Verdict;
 use orders::Order;
 use swaps::Room;
 
-pub enum Slice {
+// What Run answers of a slice.
+pub enum RunAnswer {
     Done {
         swaps: usize,
         left: usize,
@@ -27,10 +29,7 @@ pub enum Slice {
         swaps: usize,
         left: usize,
     },
-    Refused {
-        number: u8,
-        place: usize,
-    },
+    Refused(Refusal),
 }
 
 // Whether a planned swap was made, and the order then.
@@ -53,30 +52,30 @@ fn bad_run_sizes(table: &[u8], roots: &[u8], order: &[u8], target: &[u8]) -> boo
     checks::sizes::bad_sizes(table, roots, order) | !(target.len() == order.len())
 }
 
-fn judge_run(table: &[u8], roots: &[u8], order: &[u8], target: &[u8]) -> Verdict
-    ensures { λ v. ⌜ v ≡ stages.judge (runStages (now (table .entry)) (now (roots .entry)) (now (order .entry)) (now (target .entry))) ⌝ }
+fn verdict_of_run(table: &[u8], roots: &[u8], order: &[u8], target: &[u8]) -> Verdict
+    ensures { λ v. ⌜ v ≡ verdictOf (runStages (now (table .entry)) (now (roots .entry)) (now (order .entry)) (now (target .entry))) ⌝ }
 {
     if bad_run_sizes(table, roots, order, target) {
-        return Verdict::Refused {
+        return Verdict::Refused(Refusal {
             number: 1,
             place: 0,
-        };
+        });
     }
-    let bad_order = orders::first_bad_place(order);
+    let bad_order = check_permutation::first_bad_place(order);
     if bad_order < order.len() {
-        return Verdict::Refused {
+        return Verdict::Refused(Refusal {
             number: 2,
             place: bad_order,
-        };
+        });
     }
-    let bad_target = orders::first_bad_place(target);
+    let bad_target = check_permutation::first_bad_place(target);
     if bad_target < target.len() {
-        return Verdict::Refused {
+        return Verdict::Refused(Refusal {
             number: 3,
             place: bad_target,
-        };
+        });
     }
-    checks::judge_table(table, roots, order)
+    checks::verdict_of_table(table, roots, order)
 }
 
 // ---- one planned swap
@@ -133,35 +132,41 @@ fn drive(
 
 // ---- the answer, judged on the state left
 
-fn judge(table: &[u8], roots: &[u8], order: Order, goal: Order, n: usize, swaps: usize) -> Slice
+fn judge(table: &[u8], roots: &[u8], order: Order, goal: Order, n: usize, swaps: usize) -> RunAnswer
     requires { ⌜ Sized (now table) (now roots) × (Arranged order n × Arranged goal n) ⌝ }
     ensures { λ a. ⌜ a ≡ answerOf (now (roots .entry)) swaps (left (bytesOf order n) (bytesOf goal n)) (stateOf (now (table .entry)) order n) (over.judge (relay (now (roots .entry))) bringUp (bytesOf goal n) (stateOf (now (table .entry)) order n)) ⌝ }
 {
     let left = order.left(goal, n);
     if order.same(goal, n) {
-        return Slice::Done { swaps, left };
+        return RunAnswer::Done { swaps, left };
     }
     let level = order.bring_up(goal, n);
     let x = order.variable_at(level);
     let y = order.variable_at(level + 1);
     match swaps::has_room(table, roots, x, y) {
-        Room::NoRoom { needed, free } => Slice::NoRoom {
+        Room::NoRoom { needed, free } => RunAnswer::NoRoom {
             swaps,
             left,
             level,
             needed,
             free,
         },
-        Room::Made => Slice::Paused { swaps, left },
+        Room::Made => RunAnswer::Paused { swaps, left },
     }
 }
 
-pub fn run(table: &mut [u8], roots: &[u8], order: &mut [u8], target: &[u8], budget: u32) -> Slice
+pub fn run(
+    table: &mut [u8],
+    roots: &[u8],
+    order: &mut [u8],
+    target: &[u8],
+    budget: u32,
+) -> RunAnswer
     ensures { λ a. ⌜ RunOutcome (now (table .entry)) (now (roots .entry)) (now (order .entry)) (now (target .entry)) budget a (now (table .exit)) (now (order .exit)) ⌝ }
 {
-    let verdict = judge_run(table, roots, order, target);
-    if let Verdict::Refused { number, place } = verdict {
-        return Slice::Refused { number, place };
+    let verdict = verdict_of_run(table, roots, order, target);
+    if let Verdict::Refused(refusal) = verdict {
+        return RunAnswer::Refused(refusal);
     }
     let n = order.len();
     let goal = Order::load(target);

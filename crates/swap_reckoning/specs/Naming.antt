@@ -121,9 +121,9 @@ module _ (t : List ℕ) (x y : ℕ) where
       go true false b false = refl
       go false e b n = refl
 
-  names-is : (roots : List ℕ) (q j : ℕ) → j < records t → names plain (at (decode t)) (records t) x y roots q j ≡ keeps t x y q j
+  names-is : (q j : ℕ) → j < records t → names plain (at (decode t)) x y q j ≡ keeps t x y q j
   unfolding names nodeAt isFreeNode lowOf highOf
-  names-is roots q j h = rw (at-decode t j h) (go (isFree t j))
+  names-is q j h = rw (at-decode t j h) (go (isFree t j))
     where
       go : (u : Bool) → (not (isFreeNode (cond u free (node (variableAt t j) (lowAt t j) (highAt t j)))) && not (crosses (lookup t) x y (ref j))
           && (eqb (lowOf (cond u free (node (variableAt t j) (lowAt t j) (highAt t j)))) q || eqb (highOf (cond u free (node (variableAt t j) (lowAt t j) (highAt t j)))) q))
@@ -173,8 +173,8 @@ module _ (t : List ℕ) (x y : ℕ) where
     unfolding rootNames
     roots-named q = rw (length-roots r) (ap (λ k. ltb k (rootCount r)) (first-agrees _ _ (rootCount r) (λ k h. ap (λ v. eqb v q) (root-is r k h))))
 
-    records-name : (q : ℕ) → any (names plain (at (decode t)) (records t) x y (rootsOf r) q) (records t) ≡ any (keeps t x y q) (records t)
-    records-name q = ap (λ k. ltb k (records t)) (first-agrees _ _ (records t) (names-is (rootsOf r) q))
+    records-name : (q : ℕ) → any (names plain (at (decode t)) x y q) (records t) ≡ any (keeps t x y q) (records t)
+    records-name q = ap (λ k. ltb k (records t)) (first-agrees _ _ (records t) (names-is q))
 
     -- a y record without a name dies
     pub dies-is : records t ≤ mostRecords → (i : ℕ) → i < records t → (ofAt t y i && unnamed (namesOf t r x standing m) i) ≡ dies plain (at (decode t)) (records t) x y (rootsOf r) (ref i)

@@ -174,9 +174,9 @@ regrouped : (a b c d : Bool) → (a && b && c && d) ≡ ((a && d) && (b && c))
 regrouped true b c d = and-turned (b && c) d
 regrouped false b c d = refl
 
-stands-is : (t : List ℕ) (x y : ℕ) (roots : List ℕ) (a b j : ℕ) → j < records t → stands plain (at (decode t)) (records t) x y roots (node x a b) j ≡ (standsAt t x y j && hits t a b j)
+stands-is : (t : List ℕ) (x y a b j : ℕ) → j < records t → stands plain (at (decode t)) x y (node x a b) j ≡ (standsAt t x y j && hits t a b j)
 unfolding stands standsAt look nodeAt same isOf
-stands-is t x y roots a b j h = rw (at-decode t j h) (go (isFree t j) (crosses (lookup t) x y (ref j)))
+stands-is t x y a b j h = rw (at-decode t j h) (go (isFree t j) (crosses (lookup t) x y (ref j)))
   where
     go : (u c : Bool) → (same (node x a b) (cond u free (node (variableAt t j) (lowAt t j) (highAt t j))) && not c) ≡ ((isOf x (cond u free (node (variableAt t j) (lowAt t j) (highAt t j))) && not c) && hits t a b j)
     go true c = refl
@@ -186,44 +186,44 @@ stands-is t x y roots a b j h = rw (at-decode t j h) (go (isFree t j) (crosses (
 abbrev pub found : List ℕ → List ℕ → ℕ → ℕ → ℕ → ℕ
 found t standing m a b = first (matchesAt t standing a b) m
 
-abbrev pub sought : List ℕ → ℕ → ℕ → List ℕ → ℕ → ℕ → ℕ
-sought t x y roots a b = first (stands plain (at (decode t)) (records t) x y roots (node x a b)) (records t)
+abbrev pub sought : List ℕ → ℕ → ℕ → ℕ → ℕ → ℕ
+sought t x y a b = first (stands plain (at (decode t)) x y (node x a b)) (records t)
 
-module _ (t : List ℕ) (x y : ℕ) (roots : List ℕ) (standing : List ℕ) (m : ℕ) (C : Collected (standsAt t x y) (records t) standing m) where
+module _ (t : List ℕ) (x y : ℕ) (standing : List ℕ) (m : ℕ) (C : Collected (standsAt t x y) (records t) standing m) where
   standing-length : length (which (standsAt t x y) (records t)) ≡ m
   standing-length = length-entries C
 
   module _ (a b : ℕ) where
-    sought-is : sought t x y roots a b ≡ first (λ j. standsAt t x y j && hits t a b j) (records t)
-    sought-is = first-agrees _ _ (records t) (stands-is t x y roots a b)
+    sought-is : sought t x y a b ≡ first (λ j. standsAt t x y j && hits t a b j) (records t)
+    sought-is = first-agrees _ _ (records t) (stands-is t x y a b)
 
     found-is : found t standing m a b ≡ first (λ j. hits t a b (getD (which (standsAt t x y) (records t)) j 0)) (length (which (standsAt t x y) (records t)))
     unfolding matchesAt
     found-is = rw standing-length (first-agrees _ _ m (λ j h. ap (hits t a b) (entry-at C j h)))
 
-    pub standing-finds : found t standing m a b < m → getD standing (found t standing m a b) 0 ≡ sought t x y roots a b
+    pub standing-finds : found t standing m a b < m → getD standing (found t standing m a b) 0 ≡ sought t x y a b
     standing-finds h =
         entry-at C (found t standing m a b) h
         ∙ which-finds (standsAt t x y) (hits t a b) (records t) (found t standing m a b) found-is (rw standing-length h)
         ∙ sym sought-is
 
-    pub standing-any : any (stands plain (at (decode t)) (records t) x y roots (node x a b)) (records t) ≡ any (matchesAt t standing a b) m
+    pub standing-any : any (stands plain (at (decode t)) x y (node x a b)) (records t) ≡ any (matchesAt t standing a b) m
     standing-any = either-side (found t standing m a b) m there missing
       where
-        there : found t standing m a b < m → ltb (sought t x y roots a b) (records t) ≡ ltb (found t standing m a b) m
+        there : found t standing m a b < m → ltb (sought t x y a b) (records t) ≡ ltb (found t standing m a b) m
         there h =
             let e : getD standing (found t standing m a b) 0 < records t = entry-below C (found t standing m a b) h in
-            lt-ltb (sought t x y roots a b) (records t) (omega (arith, standing-finds h)) ∙ sym (lt-ltb (found t standing m a b) m h)
+            lt-ltb (sought t x y a b) (records t) (omega (arith, standing-finds h)) ∙ sym (lt-ltb (found t standing m a b) m h)
 
-        missing : m ≤ found t standing m a b → ltb (sought t x y roots a b) (records t) ≡ ltb (found t standing m a b) m
+        missing : m ≤ found t standing m a b → ltb (sought t x y a b) (records t) ≡ ltb (found t standing m a b) m
         missing h =
             let s : first (λ j. standsAt t x y j && hits t a b j) (records t) ≡ records t = which-misses (standsAt t x y) (hits t a b) (records t) (found t standing m a b) found-is (rw standing-length h) in
-            le-ltb (sought t x y roots a b) (records t) (omega (arith, sought-is)) ∙ sym (le-ltb (found t standing m a b) m h)
+            le-ltb (sought t x y a b) (records t) (omega (arith, sought-is)) ∙ sym (le-ltb (found t standing m a b) m h)
 
   -- ---- a pair noted is a record noted
 
   pair-noted : (p : News) (a b : ℕ) → 2 * p .count + 1 < length (p .list)
-      → newsList x (notePair t standing m p a b) ≡ noted plain (at (decode t)) (records t) x y roots (newsList x p) (node x a b)
+      → newsList x (notePair t standing m p a b) ≡ noted plain (at (decode t)) (records t) x y (newsList x p) (node x a b)
   unfolding notePair noted isNew lowOf highOf
   pair-noted p a b room =
       go (eqb a b) (any (matchesAt t standing a b) m) (any (newAt (p .list) a b) (p .count))
@@ -238,8 +238,8 @@ module _ (t : List ℕ) (x y : ℕ) (roots : List ℕ) (standing : List ℕ) (m 
 
   record-noted : (p : News) (i : ℕ) → 2 * p .count + 3 < length (p .list)
       → newsList x (noteRecord t x y standing m p i)
-      ≡ cond (crossing plain (at (decode t)) (records t) x y roots i)
-      (noted plain (at (decode t)) (records t) x y roots (noted plain (at (decode t)) (records t) x y roots (newsList x p) (asked (lookup t) x y false (ref i))) (asked (lookup t) x y true (ref i)))
+      ≡ cond (crossing plain (at (decode t)) x y i)
+      (noted plain (at (decode t)) (records t) x y (noted plain (at (decode t)) (records t) x y (newsList x p) (asked (lookup t) x y false (ref i))) (asked (lookup t) x y true (ref i)))
       (newsList x p)
   unfolding noteRecord asked
   record-noted p i room = go (crosses (lookup t) x y (ref i))
@@ -249,24 +249,24 @@ module _ (t : List ℕ) (x y : ℕ) (roots : List ℕ) (standing : List ℕ) (m 
 
       go : (u : Bool) → newsList x (cond u (notePair t standing m low (f01 (lookup t) y (ref i)) (f11 (lookup t) y (ref i))) p)
           ≡ cond u
-          (noted plain (at (decode t)) (records t) x y roots (noted plain (at (decode t)) (records t) x y roots (newsList x p) (node x (f00 (lookup t) y (ref i)) (f10 (lookup t) y (ref i)))) (node x (f01 (lookup t) y (ref i)) (f11 (lookup t) y (ref i))))
+          (noted plain (at (decode t)) (records t) x y (noted plain (at (decode t)) (records t) x y (newsList x p) (node x (f00 (lookup t) y (ref i)) (f10 (lookup t) y (ref i)))) (node x (f01 (lookup t) y (ref i)) (f11 (lookup t) y (ref i))))
           (newsList x p)
       go true =
           pair-noted low (f01 (lookup t) y (ref i)) (f11 (lookup t) y (ref i))
           (omega (arith, pair-length t standing m p (f00 (lookup t) y (ref i)) (f10 (lookup t) y (ref i)), pair-count t standing m p (f00 (lookup t) y (ref i)) (f10 (lookup t) y (ref i))))
-          ∙ ap (λ (l : List Node). noted plain (at (decode t)) (records t) x y roots l (node x (f01 (lookup t) y (ref i)) (f11 (lookup t) y (ref i))))
+          ∙ ap (λ (l : List Node). noted plain (at (decode t)) (records t) x y l (node x (f01 (lookup t) y (ref i)) (f11 (lookup t) y (ref i))))
           (pair-noted p (f00 (lookup t) y (ref i)) (f10 (lookup t) y (ref i)) (omega arith))
       go false = refl
 
   -- the pairs noted of the first k records are the new records that these ask for
-  news-list : (start : List ℕ) → 4 * records t ≤ length start → (k : ℕ) → k ≤ records t → newsList x (fold (noteRecord t x y standing m) (begun start) k) ≡ newsTo plain (at (decode t)) (records t) x y roots k
+  news-list : (start : List ℕ) → 4 * records t ≤ length start → (k : ℕ) → k ≤ records t → newsList x (fold (noteRecord t x y standing m) (begun start) k) ≡ newsTo plain (at (decode t)) (records t) x y k
   unfolding fold newsList tabulate
-  news-list start long zero h = sym (news-begin plain (at (decode t)) (records t) x y roots)
+  news-list start long zero h = sym (news-begin plain (at (decode t)) (records t) x y)
   news-list start long (suc k) h =
       record-noted (fold (noteRecord t x y standing m) (begun start) k) k (begun-room t standing m x y start k (records t) h long)
-      ∙ ap (λ (l : List Node). cond (crossing plain (at (decode t)) (records t) x y roots k) (noted plain (at (decode t)) (records t) x y roots (noted plain (at (decode t)) (records t) x y roots l (asked (lookup t) x y false (ref k))) (asked (lookup t) x y true (ref k))) l)
+      ∙ ap (λ (l : List Node). cond (crossing plain (at (decode t)) x y k) (noted plain (at (decode t)) (records t) x y (noted plain (at (decode t)) (records t) x y l (asked (lookup t) x y false (ref k))) (asked (lookup t) x y true (ref k))) l)
       (news-list start long k (omega arith))
-      ∙ sym (news-more plain (at (decode t)) (records t) x y roots k)
+      ∙ sym (news-more plain (at (decode t)) (records t) x y k)
 
-  pub news-whole : (start : List ℕ) → 4 * records t ≤ length start → newsList x (fold (noteRecord t x y standing m) (begun start) (records t)) ≡ news plain (at (decode t)) (records t) x y roots
-  news-whole start long = news-list start long (records t) (omega arith) ∙ news-end plain (at (decode t)) (records t) x y roots
+  pub news-whole : (start : List ℕ) → 4 * records t ≤ length start → newsList x (fold (noteRecord t x y standing m) (begun start) (records t)) ≡ news plain (at (decode t)) (records t) x y
+  news-whole start long = news-list start long (records t) (omega arith) ∙ news-end plain (at (decode t)) (records t) x y

@@ -40,40 +40,40 @@ free-is t i b = ap isFreeNode (at-decode t i b) ∙ go (isFree t i)
     go true = refl
     go false = refl
 
-module _ (t : List ℕ) (x y : ℕ) (roots : List ℕ) where
-  slots-which : slots plain (at (decode t)) (records t) x y roots ≡ which (isFree t) (records t)
+module _ (t : List ℕ) where
+  slots-which : slots (at (decode t)) (records t) ≡ which (isFree t) (records t)
   unfolding slots
   slots-which = which-agrees _ _ (records t) (free-is t)
 
-  free-count : length (which (isFree t) (records t)) ≡ freeCount plain (at (decode t)) (records t) x y roots
+  free-count : length (which (isFree t) (records t)) ≡ freeCount (at (decode t)) (records t)
   unfolding slots freeCount
   free-count = ap length (sym slots-which) ∙ which-length (λ i. isFreeNode (at (decode t) i)) (records t)
 
   -- a free record is the slot with as many before it as are free before it
-  turn-free : (i : ℕ) → i < records t → isFree t i ≡ true → turn plain (at (decode t)) (records t) x y roots i ≡ count (isFree t) i
+  turn-free : (i : ℕ) → i < records t → isFree t i ≡ true → turn (at (decode t)) (records t) i ≡ count (isFree t) i
   unfolding turn
   turn-free i h e = rw slots-which (which-index (isFree t) (records t) i h e)
 
   -- a used one is none
-  turn-used : (i : ℕ) → isFree t i ≡ false → turn plain (at (decode t)) (records t) x y roots i ≡ freeCount plain (at (decode t)) (records t) x y roots
+  turn-used : (i : ℕ) → isFree t i ≡ false → turn (at (decode t)) (records t) i ≡ freeCount (at (decode t)) (records t)
   unfolding turn
   turn-used i e = rw slots-which (which-absent (isFree t) (records t) i e) ∙ free-count
 
-  filled-is : needed plain (at (decode t)) (records t) x y roots ≤ freeCount plain (at (decode t)) (records t) x y roots
-      → (i : ℕ) → i < records t → filled plain (at (decode t)) (records t) x y roots i ≡ (isFree t i && ltb (count (isFree t) i) (needed plain (at (decode t)) (records t) x y roots))
+  filled-is : (x y : ℕ) → needed plain (at (decode t)) (records t) x y ≤ freeCount (at (decode t)) (records t)
+      → (i : ℕ) → i < records t → filled plain (at (decode t)) (records t) x y i ≡ (isFree t i && ltb (count (isFree t) i) (needed plain (at (decode t)) (records t) x y))
   unfolding filled
-  filled-is fit i h = go (by (isFree t i))
+  filled-is x y fit i h = go (by (isFree t i))
     where
-      go : (isFree t i ≡ true) ⊎ (isFree t i ≡ false) → ltb (turn plain (at (decode t)) (records t) x y roots i) (needed plain (at (decode t)) (records t) x y roots) ≡ (isFree t i && ltb (count (isFree t) i) (needed plain (at (decode t)) (records t) x y roots))
+      go : (isFree t i ≡ true) ⊎ (isFree t i ≡ false) → ltb (turn (at (decode t)) (records t) i) (needed plain (at (decode t)) (records t) x y) ≡ (isFree t i && ltb (count (isFree t) i) (needed plain (at (decode t)) (records t) x y))
       go (inl e) = rw (e, turn-free i h e)
       go (inr e) = rw (e, turn-used i e) (le-ltb _ _ fit)
 
   module _ {list : List ℕ} {frees : ℕ} (C : Collected (isFree t) (records t) list frees) where
-    frees-is : frees ≡ freeCount plain (at (decode t)) (records t) x y roots
+    frees-is : frees ≡ freeCount (at (decode t)) (records t)
     frees-is = sym (length-entries C) ∙ free-count
 
     -- slot j, and 0 past the last one
-    pub slot-is : (j : ℕ) → slotAt list frees j ≡ getD (slots plain (at (decode t)) (records t) x y roots) j 0
+    pub slot-is : (j : ℕ) → slotAt list frees j ≡ getD (slots (at (decode t)) (records t)) j 0
     unfolding slotAt
     slot-is j = rw slots-which (either-side j frees there past)
       where
@@ -120,58 +120,56 @@ module _ {t : List ℕ} {x y : ℕ} {standing : List ℕ} {m : ℕ} {p : News} {
       go false (inr e) (inl f) = rw (e, f) (omega (arith, R .few, entry-below (R .slots-are) (first (newAt (p .list) a b) (p .count)) (ltb-true _ _ f)))
       go false (inr e) (inr f) = rw (e, f) (omega arith)
 
-  -- the new records and X don't ask for the roots
-  module _ (roots : List ℕ) where
-    pub news-is : newsList x p ≡ news plain (at (decode t)) (records t) x y roots
-    news-is = ap (newsList x) (R .news-are) ∙ news-whole t x y roots standing m (R .standing-are) (R .start) (omega (arith, R .few, R .long))
+  pub news-is : newsList x p ≡ news plain (at (decode t)) (records t) x y
+  news-is = ap (newsList x) (R .news-are) ∙ news-whole t x y standing m (R .standing-are) (R .start) (omega (arith, R .few, R .long))
 
-    pub needed-is : p .count ≡ needed plain (at (decode t)) (records t) x y roots
-    unfolding needed
-    needed-is = sym (length-news x p) ∙ ap length news-is
+  pub needed-is : p .count ≡ needed plain (at (decode t)) (records t) x y
+  unfolding needed
+  needed-is = sym (length-news x p) ∙ ap length news-is
 
-    pub free-count-is : frees ≡ freeCount plain (at (decode t)) (records t) x y roots
-    free-count-is = frees-is t x y roots (R .slots-are)
+  pub free-count-is : frees ≡ freeCount (at (decode t)) (records t)
+  free-count-is = frees-is t (R .slots-are)
 
-    -- there is room by these two numbers exactly where the definition says so
-    pub fits-is : leb (p .count) frees ≡ fits plain (at (decode t)) (records t) x y roots
-    unfolding fits
-    fits-is = ap₂ leb needed-is free-count-is
+  -- there is room by these two numbers exactly where the definition says so
+  pub fits-is : leb (p .count) frees ≡ fits plain (at (decode t)) (records t) x y
+  unfolding fits
+  fits-is = ap₂ leb needed-is free-count-is
 
-    slot-of : (a b : ℕ) → slotAt list frees (first (newAt (p .list) a b) (p .count)) ≡ slotOf plain (at (decode t)) (records t) x y roots (node x a b)
-    unfolding slotOf
-    slot-of a b =
-        slot-is t x y roots (R .slots-are) (first (newAt (p .list) a b) (p .count))
-        ∙ ap (λ j. getD (slots plain (at (decode t)) (records t) x y roots) j 0) (sym (new-first x p a b) ∙ ap (λ (l : List Node). first (λ j. same (node x a b) (getD l j free)) (length l)) news-is)
+  slot-of : (a b : ℕ) → slotAt list frees (first (newAt (p .list) a b) (p .count)) ≡ slotOf plain (at (decode t)) (records t) x y (node x a b)
+  unfolding slotOf
+  slot-of a b =
+      slot-is t (R .slots-are) (first (newAt (p .list) a b) (p .count))
+      ∙ ap (λ j. getD (slots (at (decode t)) (records t)) j 0) (sym (new-first x p a b) ∙ ap (λ (l : List Node). first (λ j. same (node x a b) (getD l j free)) (length l)) news-is)
 
-    -- X(a, b), as found in the work area
-    pub settled-is : (a b : ℕ) → settledAt t standing m p list frees a b ≡ X plain (at (decode t)) (records t) x y roots a b
-    unfolding settledAt X
-    settled-is a b = ap (cond (eqb a b) a) (rw (standing-any t x y roots standing m (R .standing-are) a b) (go (by (any (matchesAt t standing a b) m))))
-      where
-        go : (any (matchesAt t standing a b) m ≡ true) ⊎ (any (matchesAt t standing a b) m ≡ false)
-            → cond (any (matchesAt t standing a b) m) (getD standing (found t standing m a b) 0 + 2) (slotAt list frees (first (newAt (p .list) a b) (p .count)) + 2)
-            ≡ ref (cond (any (matchesAt t standing a b) m) (sought t x y roots a b) (slotOf plain (at (decode t)) (records t) x y roots (node x a b)))
-        go (inl e) = rw e (two-more _ ∙ ap ref (standing-finds t x y roots standing m (R .standing-are) a b (ltb-true _ _ e)))
-        go (inr e) = rw e (two-more _ ∙ ap ref (slot-of a b))
+  -- X(a, b), as found in the work area
+  pub settled-is : (a b : ℕ) → settledAt t standing m p list frees a b ≡ X plain (at (decode t)) (records t) x y a b
+  unfolding settledAt X
+  settled-is a b = ap (cond (eqb a b) a) (rw (standing-any t x y standing m (R .standing-are) a b) (go (by (any (matchesAt t standing a b) m))))
+    where
+      go : (any (matchesAt t standing a b) m ≡ true) ⊎ (any (matchesAt t standing a b) m ≡ false)
+          → cond (any (matchesAt t standing a b) m) (getD standing (found t standing m a b) 0 + 2) (slotAt list frees (first (newAt (p .list) a b) (p .count)) + 2)
+          ≡ ref (cond (any (matchesAt t standing a b) m) (sought t x y a b) (slotOf plain (at (decode t)) (records t) x y (node x a b)))
+      go (inl e) = rw e (two-more _ ∙ ap ref (standing-finds t x y standing m (R .standing-are) a b (ltb-true _ _ e)))
+      go (inr e) = rw e (two-more _ ∙ ap ref (slot-of a b))
 
   -- every record becomes what the definition says
   module _ (r names : List ℕ) (names-are : names ≡ namesOf t r x standing m) where
     buried-is : (i : ℕ) → i < records t → (ofAt t y i && unnamed names i) ≡ dies plain (at (decode t)) (records t) x y (rootsOf r) (ref i)
     buried-is i h = rw names-are (dies-is t x y r (R .standing-are) (R .few) i h)
 
-    module _ (fit : needed plain (at (decode t)) (records t) x y (rootsOf r) ≤ freeCount plain (at (decode t)) (records t) x y (rootsOf r)) (i : ℕ) (h : i < records t) where
-      taken-is : (isFree t i && ltb (count (isFree t) i) (p .count)) ≡ filled plain (at (decode t)) (records t) x y (rootsOf r) i
-      taken-is = ap (λ n. isFree t i && ltb (count (isFree t) i) n) (needed-is (rootsOf r)) ∙ sym (filled-is t x y (rootsOf r) fit i h)
+    module _ (fit : needed plain (at (decode t)) (records t) x y ≤ freeCount (at (decode t)) (records t)) (i : ℕ) (h : i < records t) where
+      taken-is : (isFree t i && ltb (count (isFree t) i) (p .count)) ≡ filled plain (at (decode t)) (records t) x y i
+      taken-is = ap (λ n. isFree t i && ltb (count (isFree t) i) n) needed-is ∙ sym (filled-is t x y fit i h)
 
       new-is : (isFree t i && ltb (count (isFree t) i) (p .count)) ≡ true
-          → node x (getD (p .list) (2 * count (isFree t) i) 0) (getD (p .list) (2 * count (isFree t) i + 1) 0) ≡ getD (news plain (at (decode t)) (records t) x y (rootsOf r)) (turn plain (at (decode t)) (records t) x y (rootsOf r) i) free
+          → node x (getD (p .list) (2 * count (isFree t) i) 0) (getD (p .list) (2 * count (isFree t) i + 1) 0) ≡ getD (news plain (at (decode t)) (records t) x y) (turn (at (decode t)) (records t) i) free
       new-is e =
           sym (news-at x p (count (isFree t) i) (ltb-true _ _ (and-right (isFree t i) _ e)))
-          ∙ ap₂ (λ (l : List Node) (j : ℕ). getD l j free) (news-is (rootsOf r)) (sym (turn-free t x y (rootsOf r) i h (and-left _ _ e)))
+          ∙ ap₂ (λ (l : List Node) (j : ℕ). getD l j free) news-is (sym (turn-free t i h (and-left _ _ e)))
 
       other-is : (u : Bool) → (isFree t i && ltb (count (isFree t) i) (p .count)) ≡ u
           → cond u (node x (getD (p .list) (2 * count (isFree t) i) 0) (getD (p .list) (2 * count (isFree t) i + 1) 0)) (cond (ofAt t y i && unnamed names i) free (nodeAt t i))
-          ≡ cond u (getD (news plain (at (decode t)) (records t) x y (rootsOf r)) (turn plain (at (decode t)) (records t) x y (rootsOf r) i) free) (cond (dies plain (at (decode t)) (records t) x y (rootsOf r) (ref i)) free (at (decode t) i))
+          ≡ cond u (getD (news plain (at (decode t)) (records t) x y) (turn (at (decode t)) (records t) i) free) (cond (dies plain (at (decode t)) (records t) x y (rootsOf r) (ref i)) free (at (decode t) i))
       other-is true e = new-is e
       other-is false e = ap₂ (λ (d : Bool) (o : Node). cond d free o) (buried-is i h) (sym (at-decode t i h))
 
@@ -179,7 +177,7 @@ module _ {t : List ℕ} {x y : ℕ} {standing : List ℕ} {m : ℕ} {p : News} {
       unfolding rewritten crossedAt after becomes
       rewritten-is =
           ap₂ (λ (a b : Node). cond (crosses (lookup t) x y (ref i)) a b)
-          (ap₂ (node y) (settled-is (rootsOf r) (f00 (lookup t) y (ref i)) (f10 (lookup t) y (ref i))) (settled-is (rootsOf r) (f01 (lookup t) y (ref i)) (f11 (lookup t) y (ref i))))
+          (ap₂ (node y) (settled-is (f00 (lookup t) y (ref i)) (f10 (lookup t) y (ref i))) (settled-is (f01 (lookup t) y (ref i)) (f11 (lookup t) y (ref i))))
           (rw (← taken-is) (other-is (isFree t i && ltb (count (isFree t) i) (p .count)) refl))
 
 pub news-room : {t : List ℕ} {x y : ℕ} {standing : List ℕ} {m : ℕ} {p : News} {list : List ℕ} {frees : ℕ} → Reckoned t x y standing m p list frees → 2 * p .count ≤ length (p .list)

@@ -49,9 +49,9 @@ pub plain-written : (t : List Node) → Written plain t
 plain-written t = record { own = λ i l. refl; upright = λ i v l h e. refl }
 
 -- slots enough, where needed is not above free
-pub room : (E : Edition) (t : List Node) (x y : ℕ) (roots : List ℕ) → Written E t → x ≢ y → fits E (at t) (length t) x y roots ≡ true → Room E (at t) (length t) x y roots
+pub room : (E : Edition) (t : List Node) (x y : ℕ) → Written E t → x ≢ y → fits E (at t) (length t) x y ≡ true → Room E (at t) (length t) x y
 unfolding fits freeCount slots
-room E t x y roots w d e = record {
+room E t x y w d e = record {
   differ = d;
   past = λ i l. List·getD-eq-default t free l;
   own = w .own;
@@ -64,7 +64,7 @@ module _ (E : Edition) (t : List Node) (x y : ℕ) (roots : List ℕ) where
   unfolding swapped
   length-swapped = length-tabulate (length t) (after E (at t) (length t) x y roots)
 
-  module _ (R : Room E (at t) (length t) x y roots) where
+  module _ (R : Room E (at t) (length t) x y) where
     abbrev After : ℕ → Node
     After = after E (at t) (length t) x y roots
 
@@ -76,7 +76,7 @@ module _ (E : Edition) (t : List Node) (x y : ℕ) (roots : List ℕ) where
     swapped-past i l = let h : length (swapped E t x y roots) ≤ i = rw length-swapped l in List·getD-eq-default (swapped E t x y roots) free h
 
     swapped-at : (i : ℕ) → E .inverted (ref i) ≡ false → at (swapped E t x y roots) i ≡ After i
-    swapped-at i n = either-side i (length t) (swapped-in i) (λ l. swapped-past i l ∙ sym (after-past R i l n))
+    swapped-at i n = either-side i (length t) (swapped-in i) (λ l. swapped-past i l ∙ sym (after-past R roots i l n))
 
     swapped-look : (q : ℕ) → E .inverted q ≡ false → look (at (swapped E t x y roots)) q ≡ look After q
     unfolding look
@@ -88,4 +88,4 @@ module _ (E : Edition) (t : List Node) (x y : ℕ) (roots : List ℕ) where
     swapped-seen = fun-ext (λ r. ap (turned E (E .inverted r)) (swapped-look (bare E r) (bare-upright E r)))
 
     pub swapped-written : Written E (swapped E t x y roots)
-    swapped-written = record { own = λ i l. R .own i (rw length-swapped at l); upright = λ i v l h e. either-side i (length t) (λ b. after-upright R i v l h b (sym (swapped-in i b) ∙ e)) (λ b. free-node (swapped-past i b) e) }
+    swapped-written = record { own = λ i l. R .own i (rw length-swapped at l); upright = λ i v l h e. either-side i (length t) (λ b. after-upright R roots i v l h b (sym (swapped-in i b) ∙ e)) (λ b. free-node (swapped-past i b) e) }

@@ -55,9 +55,9 @@ module _ (L : ℕ → Node) where
 abbrev pub normal : Edition → Node → Node
 normal E w = turned E (E .inverted (highOf w)) w
 
--- ---- T i is record i: N of them, and free past these
+-- ---- T i is record i: N of them, and free past these. Each word takes of the edition, the records, their number, x, y and the roots what it uses
 
-module _ (E : Edition) (T : ℕ → Node) (N x y : ℕ) (roots : List ℕ) where
+module _ (E : Edition) (T : ℕ → Node) (x y : ℕ) where
   -- record i crosses
   abbrev pub crossing : ℕ → Bool
   crossing i = crosses (seen E T) x y (ref i)
@@ -66,41 +66,51 @@ module _ (E : Edition) (T : ℕ → Node) (N x y : ℕ) (roots : List ℕ) where
   unfoldable pub stands : Node → ℕ → Bool
   stands w j = same w (T j) && not (crossing j)
 
-  -- w = x (a, b) has to be made: a isn't b, and no non-crossing record is w
-  unfoldable pub isNew : Node → Bool
-  isNew w = not (eqb (lowOf w) (highOf w)) && not (any (stands w) N)
-
   -- what record i asks for, "low settled first"
   abbrev pub bothAsked : ℕ → List Node
   bothAsked i = normal E (asked (seen E T) x y false (ref i)) ∷ normal E (asked (seen E T) x y true (ref i)) ∷ []
-
-  -- "Crossing records are taken in rising record number": all that is asked for, in this order
-  unfoldable pub wanted : List Node
-  wanted = each bothAsked (which crossing N)
-
-  -- the new records, in the order of first need: "one made in this swap" serves again
-  unfoldable pub news : List Node
-  news = once same (keep isNew wanted)
 
   -- "Others stay as they are": record j is used, stays as it is, and names r
   unfoldable pub names : ℕ → ℕ → Bool
   names r j = isUsedNode (T j) && not (crossing j) && (oneRecord E (lowOf (T j)) r || oneRecord E (highOf (T j)) r)
 
-  -- "each y record from before that no root and no record names any more": crossed and new records name no y record from before
-  unfoldable pub dies : ℕ → Bool
-  dies r = isOf y (seen E T r) && not (any (λ k. oneRecord E (getD roots k 0) r) (length roots)) && not (any (names r) N)
-
+module _ (T : ℕ → Node) (N : ℕ) where
   -- where the new records go, first to last: each "in the lowest-numbered free record". What dies is none of them: "It can be used from the next swap on."
   unfoldable pub slots : List ℕ
   slots = which (λ i. isFreeNode (T i)) N
 
+  -- which of the slots record i is
+  unfoldable pub turn : ℕ → ℕ
+  turn i = first (λ j. eqb (getD slots j 0) i) (length slots)
+
+  -- "free the number of free records before the swap"
+  unfoldable pub freeCount : ℕ
+  freeCount = count (λ i. isFreeNode (T i)) N
+
+  -- how many of the records are used
+  unfoldable pub usedCount : ℕ
+  usedCount = count (λ i. isUsedNode (T i)) N
+
+module _ (E : Edition) (T : ℕ → Node) (N x y : ℕ) where
+  -- w = x (a, b) has to be made: a isn't b, and no non-crossing record is w
+  unfoldable pub isNew : Node → Bool
+  isNew w = not (eqb (lowOf w) (highOf w)) && not (any (stands E T x y w) N)
+
+  -- "Crossing records are taken in rising record number": all that is asked for, in this order
+  unfoldable pub wanted : List Node
+  wanted = each (bothAsked E T x y) (which (crossing E T x y) N)
+
+  -- the new records, in the order of first need: "one made in this swap" serves again
+  unfoldable pub news : List Node
+  news = once same (keep isNew wanted)
+
   -- where the new record w goes
   unfoldable pub slotOf : Node → ℕ
-  slotOf w = getD slots (first (λ j. same w (getD news j free)) (length news)) 0
+  slotOf w = getD (slots T N) (first (λ j. same w (getD news j free)) (length news)) 0
 
   -- the record w, "if a non-crossing one or one made in this swap exists; otherwise a new one"
   abbrev pub placed : Node → ℕ
-  placed w = cond (any (stands w) N) (first (stands w) N) (slotOf w)
+  placed w = cond (any (stands E T x y w) N) (first (stands E T x y w) N) (slotOf w)
 
   -- "X(a, b) is a where a equals b; otherwise the x record with low a and high b"; where b is inverted, "the reference to it is inverted"
   unfoldable pub X : ℕ → ℕ → ℕ
@@ -114,32 +124,26 @@ module _ (E : Edition) (T : ℕ → Node) (N x y : ℕ) (roots : List ℕ) where
   unfoldable pub needed : ℕ
   needed = length news
 
-  -- "free the number of free records before the swap"
-  unfoldable pub freeCount : ℕ
-  freeCount = count (λ i. isFreeNode (T i)) N
-
   -- "No room is given exactly when needed is above free."
   unfoldable pub fits : Bool
-  fits = leb needed freeCount
+  fits = leb needed (freeCount T N)
 
-  -- which of the slots record i is; and whether a new record goes there
-  unfoldable pub turn : ℕ → ℕ
-  turn i = first (λ j. eqb (getD slots j 0) i) (length slots)
-
+  -- a new record goes to record i
   unfoldable pub filled : ℕ → Bool
-  filled i = ltb (turn i) needed
+  filled i = ltb (turn T N i) needed
 
-  -- record i afterwards. Each crossing record "keeps its number"; what dies "becomes a free record"; "Nothing else changes."
-  unfoldable pub after : ℕ → Node
-  after i = cond (crossing i) (becomes (ref i)) (cond (filled i) (getD news (turn i) free) (cond (dies (ref i)) free (T i)))
+  module _ (roots : List ℕ) where
+    -- "each y record from before that no root and no record names any more": crossed and new records name no y record from before
+    unfoldable pub dies : ℕ → Bool
+    dies r = isOf y (seen E T r) && not (any (λ k. oneRecord E (getD roots k 0) r) (length roots)) && not (any (names E T x y r) N)
 
-  -- how many records die
-  unfoldable pub dying : ℕ
-  dying = count (λ i. dies (ref i)) N
+    -- how many records die
+    unfoldable pub dying : ℕ
+    dying = count (λ i. dies (ref i)) N
 
--- how many of N records are used
-unfoldable pub usedCount : (ℕ → Node) → ℕ → ℕ
-usedCount T N = count (λ i. isUsedNode (T i)) N
+    -- record i afterwards. Each crossing record "keeps its number"; what dies "becomes a free record"; "Nothing else changes."
+    unfoldable pub after : ℕ → Node
+    after i = cond (crossing E T x y i) (becomes (ref i)) (cond (filled i) (getD news (turn T N i) free) (cond (dies (ref i)) free (T i)))
 
 -- a whole table afterwards
 unfoldable pub swapped : Edition → List Node → ℕ → ℕ → List ℕ → List Node

@@ -50,7 +50,7 @@ pub record Cofactors (L L′ : ℕ → Node) (n x y r : ℕ) : Type 0 where
 
 -- ---- the theorems
 
-module _ {E : Edition} (t : List Node) (written : Written E t) (roots ord : List ℕ) (k : ℕ) (P : Permutation ord) (b : k + 1 < length ord) (fit : fits E (at t) (length t) (xAt ord k) (yAt ord k) roots ≡ true) where
+module _ {E : Edition} (t : List Node) (written : Written E t) (roots ord : List ℕ) (k : ℕ) (P : Permutation ord) (b : k + 1 < length ord) (fit : fits E (at t) (length t) (xAt ord k) (yAt ord k) ≡ true) where
   abbrev x : ℕ
   x = xAt ord k
 
@@ -69,31 +69,31 @@ module _ {E : Edition} (t : List Node) (written : Written E t) (roots ord : List
   abbrev Dies : ℕ → Bool
   Dies = dies E (at t) (length t) x y roots
 
-  R : Room E (at t) (length t) x y roots
-  R = room E t x y roots written (differ ord k P b) fit
+  R : Room E (at t) (length t) x y
+  R = room E t x y written (differ ord k P b) fit
 
-  step : Step (E .Terminal) L L′ (Rooted E roots) x y (X E (at t) (length t) x y roots) Dies
-  step = rw (swapped-seen E t x y roots R) (computed-step R)
+  step : Step (E .Terminal) L L′ (Rooted E roots) x y (X E (at t) (length t) x y) Dies
+  step = rw (swapped-seen E t x y roots R) (computed-step R roots)
 
   -- "Nothing else changes."
-  pub swap-else : (i : ℕ) → i < length t → crosses L x y (ref i) ≡ false → filled E (at t) (length t) x y roots i ≡ false → Dies (ref i) ≡ false → at (swapped E t x y roots) i ≡ at t i
-  swap-else i l c g d = swapped-in E t x y roots R i l ∙ after-kept R i c g d
+  pub swap-else : (i : ℕ) → i < length t → crosses L x y (ref i) ≡ false → filled E (at t) (length t) x y i ≡ false → Dies (ref i) ≡ false → at (swapped E t x y roots) i ≡ at t i
+  swap-else i l c g d = swapped-in E t x y roots R i l ∙ after-kept R roots i c g d
 
   -- what dies "becomes a free record"
   pub dies-free : (r : ℕ) → Dies r ≡ true → L′ r ≡ free
-  dies-free r d = ap (λ (f : ℕ → Node). f r) (swapped-seen E t x y roots R) ∙ dying-free R r d
+  dies-free r d = ap (λ (f : ℕ → Node). f r) (swapped-seen E t x y roots R) ∙ dying-free R roots r d
 
   -- the used records are those before, plus new, less dying
-  pub swap-count : usedCount (at (swapped E t x y roots)) (length t) + dying E (at t) (length t) x y roots ≡ usedCount (at t) (length t) + needed E (at t) (length t) x y roots
+  pub swap-count : usedCount (at (swapped E t x y roots)) (length t) + dying E (at t) (length t) x y roots ≡ usedCount (at t) (length t) + needed E (at t) (length t) x y
   unfolding usedCount
-  swap-count = ap (λ m. m + dying E (at t) (length t) x y roots) (count-agrees _ _ (length t) (λ i l. ap isUsedNode (swapped-in E t x y roots R i l))) ∙ used-after R
+  swap-count = ap (λ m. m + dying E (at t) (length t) x y roots) (count-agrees _ _ (length t) (λ i l. ap isUsedNode (swapped-in E t x y roots R i l))) ∙ used-after R roots
 
   -- what the edition asks of the records holds again
   pub swap-written : Written E (swapped E t x y roots)
   swap-written = swapped-written E t x y roots R
 
   module _ (D : Diagram (E .Terminal) L (Rooted E roots) (levelOf ord) n) where
-    W : OneSwap (E .Terminal) L L′ (Rooted E roots) (levelOf ord) (levelOf (exchange ord k)) n k x y (X E (at t) (length t) x y roots) Dies
+    W : OneSwap (E .Terminal) L L′ (Rooted E roots) (levelOf ord) (levelOf (exchange ord k)) n k x y (X E (at t) (length t) x y) Dies
     W = record { plain = seen-terminal E (at t); before = D; levels = exchange-levels ord k P b; step = step }
 
     -- a diagram again, under the exchanged order
@@ -110,8 +110,8 @@ module _ {E : Edition} (t : List Node) (written : Written E t) (roots ord : List
     pub cofactors : (r : ℕ) → crosses L x y r ≡ true → Cofactors L L′ n x y r
     unfolding f00 f01 f10 f11 lowOf highOf
     cofactors r c = record {
-      low = Side L y (X E (at t) (length t) x y roots) false (u .low) (u .high);
-      high = Side L y (X E (at t) (length t) x y roots) true (u .low) (u .high);
+      low = Side L y (X E (at t) (length t) x y) false (u .low) (u .high);
+      high = Side L y (X E (at t) (length t) x y) true (u .low) (u .high);
       is = crossed-is W r (u .low) (u .high) (u .is) c;
       kept = λ inputs. swap-value inputs r (inr (used (u .is))) (x-lives W r (u .low) (u .high) (u .is));
       low-cofactor = λ inputs. side-cofactor W inputs false r (u .low) (u .high) (u .is) c;
@@ -136,11 +136,11 @@ module _ {E : Edition} (t : List Node) (written : Written E t) (roots ord : List
     dies-after r = record { yes = dead; no = alive }
       where
         nobody : Dies r ≡ true → (m : Named L′ r) → Vertex (E .Terminal) L′ (pick (m .side) (m .low) (m .high)) → ⊥
-        nobody d m (inl c) = free-node (seen-terminal E (at t) r (rw (m .names) at c)) (dies-y R r d .is)
+        nobody d m (inl c) = free-node (seen-terminal E (at t) r (rw (m .names) at c)) (dies-y R roots r d .is)
         nobody d m (inr v) = free-node (ap L′ (m .names) ∙ dies-free r d) (v .is)
 
         dead : Dies r ≡ true → Unnamed L L′ (Rooted E roots) y r
-        dead d = record { was-y = dies-y R r d; no-root = step .dies-root r d; no-record = λ m. nobody d m (swap-again W .graph .closed (m .parent) (m .is) (m .side)) }
+        dead d = record { was-y = dies-y R roots r d; no-root = step .dies-root r d; no-record = λ m. nobody d m (swap-again W .graph .closed (m .parent) (m .is) (m .side)) }
 
         alive : Unnamed L L′ (Rooted E roots) y r → Dies r ≡ true
         alive u = ⊎-elim (λ d. d) (λ d. absurd (⊎-elim (u .no-root) (u .no-record) (lasting-named W r (used (u .was-y .is)) d))) (by (Dies r))
@@ -151,7 +151,7 @@ module _ {E : Edition} (t : List Node) (written : Written E t) (roots ord : List
 
 -- ---- the plain edition: what a root reads as
 
-module _ (t : List Node) (roots ord : List ℕ) (k : ℕ) (P : Permutation ord) (b : k + 1 < length ord) (fit : fits plain (at t) (length t) (xAt ord k) (yAt ord k) roots ≡ true)
+module _ (t : List Node) (roots ord : List ℕ) (k : ℕ) (P : Permutation ord) (b : k + 1 < length ord) (fit : fits plain (at t) (length t) (xAt ord k) (yAt ord k) ≡ true)
     (D : Diagram Constant (look (at t)) (Rooted plain roots) (levelOf ord) (length ord)) where
   pub swap-reads : (inputs : ℕ → Bool) (j : ℕ) → j < length roots → (v : Bool) → Value (look (at t)) inputs (getD roots j 0) v → Value (look (at (swapped plain t (xAt ord k) (yAt ord k) roots))) inputs (getD roots j 0) v
   swap-reads inputs j l v p =

@@ -11,9 +11,8 @@ use Rattle.lists.specs.Keep.{keep, which, keep-short, once-short, each-length, 
 use Rattle.diagrams.specs.Layout.{recordSize, mostRecords, records}
 use Rattle.diagrams.specs.Node.{Node, at}
 use Rattle.diagrams.specs.Decode.{decode}
-use Rattle.diagrams.specs.Lookup.{rootsOf}
 use Rattle.check_records.specs.Meaning.{Sizes, sizes-if}
-use Rattle.checks.specs.Stages.{AllPass, also, stageAt, judge, passed-only, clear-only}
+use Rattle.checks.specs.Stages.{AllPass, also, stageAt, verdictOf, passed-only, clear-only}
 use Rattle.checks.specs.Check.{checkStages}
 use Rattle.checks.specs.Theorems.{Bounded, refusal-small}
 use Rattle.checks.specs.declared.Verdict.{Verdict}
@@ -21,29 +20,28 @@ use Rattle.checks.specs.declared.Verdict.the-variants as verdict
 use Rattle.diagrams.specs.Edition.{plain}
 use Rattle.swap_rules.specs.Record.{isFreeNode, same}
 use Rattle.swap_rules.specs.Swap.{xAt, yAt, bothAsked, crossing, isNew, wanted, news, needed, freeCount}
-use Rattle.swaps.specs.Outcome.{fitsIn, roomOf, noLevel, swapStages, swapAfter, swapJudged, swapOf, numbers}
+use Rattle.swaps.specs.Outcome.{neededIn, freeIn, fitsIn, roomOf, noLevel, swapStages, swapAfter, swapJudged, swapOf, numbers}
 use Rattle.swaps.specs.declared.Room.the-variants as room
 
-module _ (T : ℕ → Node) (N x y : ℕ) (roots : List ℕ) where
+module _ (T : ℕ → Node) (N x y : ℕ) where
   -- each crossing record asks for two
-  wanted-small : length (wanted plain T N x y roots) ≤ 2 * N
+  wanted-small : length (wanted plain T N x y) ≤ 2 * N
   unfolding wanted
   wanted-small =
-      omega (arith, each-length (bothAsked plain T N x y roots) 2 (λ i. refl) (which (crossing plain T N x y roots) N), which-length (crossing plain T N x y roots) N, count-small (crossing plain T N x y roots) N)
+      omega (arith, each-length (bothAsked plain T x y) 2 (λ i. refl) (which (crossing plain T x y) N), which-length (crossing plain T x y) N, count-small (crossing plain T x y) N)
 
-  pub needed-small : needed plain T N x y roots ≤ 2 * N
+  pub needed-small : needed plain T N x y ≤ 2 * N
   unfolding needed news
-  needed-small = omega (arith, once-short same (keep (isNew plain T N x y roots) (wanted plain T N x y roots)), keep-short (isNew plain T N x y roots) (wanted plain T N x y roots), wanted-small)
+  needed-small = omega (arith, once-short same (keep (isNew plain T N x y) (wanted plain T N x y)), keep-short (isNew plain T N x y) (wanted plain T N x y), wanted-small)
 
-  pub free-small : freeCount plain T N x y roots ≤ N
-  unfolding freeCount
-  free-small = count-small (λ i. isFreeNode (T i)) N
+pub free-small : (T : ℕ → Node) (N : ℕ) → freeCount T N ≤ N
+unfolding freeCount
+free-small T N = count-small (λ i. isFreeNode (T i)) N
 
 -- both are small of a table that isn't too long
-pub room-small : (t r : List ℕ) (x y m : ℕ) → 2 * mostRecords < m → length t ≤ recordSize * mostRecords
-    → (needed plain (at (decode t)) (records t) x y (rootsOf r) < m) × (freeCount plain (at (decode t)) (records t) x y (rootsOf r) < m)
-room-small t r x y m big few =
-    (omega (arith, needed-small (at (decode t)) (records t) x y (rootsOf r)), omega (arith, free-small (at (decode t)) (records t) x y (rootsOf r)))
+pub room-small : (t : List ℕ) (x y m : ℕ) → 2 * mostRecords < m → length t ≤ recordSize * mostRecords
+    → (neededIn t x y < m) × (freeIn t < m)
+room-small t x y m big few = (omega (arith, needed-small (at (decode t)) (records t) x y), omega (arith, free-small (at (decode t)) (records t)))
 
 -- ---- every number of an answer is below m
 
@@ -56,14 +54,14 @@ module _ (t r o : List ℕ) (k m : ℕ) (big : 2 * mostRecords < m) (level : k <
   unfolding swapStages checkStages
   sizes-passed (also h rest) = sizes-if t r o (passed-only 0 h)
 
-  judged-below : (v : Verdict) → judge (swapStages t r o k) ≡ v → Below m (numbers (swapJudged t r o k v .answer))
+  judged-below : (v : Verdict) → verdictOf (swapStages t r o k) ≡ v → Below m (numbers (swapJudged t r o k v .answer))
   unfolding roomOf swapStages Bounded
   judged-below verdict.Clear e =
-      room-below (fitsIn t r (xAt o k) (yAt o k)) _ _ (room-small t r (xAt o k) (yAt o k) m big (sizes-passed (clear-only (swapStages t r o k) e) .few-records))
-  judged-below (verdict.Refused j x) e =
-      let w = refusal-small t r o (stageAt 12 k (noLevel o k) ∷ []) m j x (omega arith) (omega arith, omega arith, tt) e in
+      room-below (fitsIn t (xAt o k) (yAt o k)) _ _ (room-small t (xAt o k) (yAt o k) m big (sizes-passed (clear-only (swapStages t r o k) e) .few-records))
+  judged-below (verdict.Refused f) e =
+      let w = refusal-small t r o (stageAt 12 k (noLevel o k) ∷ []) m (f .number) (f .place) (omega arith) (omega arith, omega arith, tt) e in
       (w .0, (w .1, tt))
 
   pub swap-numbers-small : Below m (numbers (swapOf t r o k .answer))
   unfolding swapOf
-  swap-numbers-small = judged-below (judge (swapStages t r o k)) refl
+  swap-numbers-small = judged-below (verdictOf (swapStages t r o k)) refl

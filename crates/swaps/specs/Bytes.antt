@@ -24,23 +24,24 @@ use Rattle.diagrams.specs.Levels.{free-node}
 use Rattle.diagrams.specs.Diagram.{Diagram}
 use Rattle.diagrams.specs.Reduced.{diagram-of, look-plain}
 use Rattle.diagrams.specs.Value.{value, Value}
-use Rattle.checks.specs.Stages.{AllPass, also, both-rows, FailsFirst, stageAt, judge, passed-only, clear-if, clear-only, refused-if, refused-only, row-passes, place-passes}
+use Rattle.checks.specs.Stages.{AllPass, also, both-rows, FailsFirst, refusal, stageAt, verdictOf, passed-only, clear-if, clear-only, refused-if, refused-only, row-passes, place-passes}
 use Rattle.checks.specs.Check.{checkStages, used, checkOf}
 use Rattle.checks.specs.Usable.{Usable, usable-if, usable-then, all-pass, passes-all}
 use Rattle.checks.specs.Theorems.{accepts}
+use Rattle.checks.specs.declared.Refusal.{Refusal}
 use Rattle.checks.specs.declared.Verdict.{Verdict}
 use Rattle.checks.specs.declared.Verdict.the-variants as verdict
-use Rattle.checks.specs.declared.Answer.the-variants.{Accepted}
+use Rattle.checks.specs.declared.CheckAnswer.the-variants.{Accepted}
 use Rattle.diagrams.specs.Edition.{plain}
 use Rattle.swap_rules.specs.Record.{isUsedNode, isFreeNode, Behind, behind}
-use Rattle.swap_rules.specs.Swap.{xAt, yAt, crosses, dies, needed, freeCount, fits, filled, dying, usedCount, swapped}
+use Rattle.swap_rules.specs.Swap.{xAt, yAt, crosses, dies, fits, filled, usedCount, swapped}
 use Rattle.swap_rules.specs.Stored.{plain-written, length-swapped}
 use Rattle.swap_rules.specs.Theorem.{Cofactors, swap-diagram, swap-bryant, swap-root, swap-reads, swap-else, swap-count, cofactors}
-use Rattle.swaps.specs.Outcome.{fitsIn, roomOf, room-fits, room-lacks, tableAfter, noLevel, swapStages, Swapped, swapAfter, swapJudged, swapOf, SwapOutcome}
+use Rattle.swaps.specs.Outcome.{neededIn, freeIn, fitsIn, dyingIn, roomOf, room-fits, room-lacks, tableAfter, noLevel, swapStages, Swapped, swapAfter, swapJudged, swapOf, SwapOutcome}
 use Rattle.swaps.specs.declared.Room.{Room}
 use Rattle.swaps.specs.declared.Room.the-variants as room
-use Rattle.swaps.specs.declared.Swapping.{Swapping}
-use Rattle.swaps.specs.declared.Swapping.the-variants.{Made, NoRoom, Refused}
+use Rattle.swaps.specs.declared.SwapAnswer.{SwapAnswer}
+use Rattle.swaps.specs.declared.SwapAnswer.the-variants.{Made, NoRoom, Refused}
 
 -- ---- as many records as before
 
@@ -75,7 +76,7 @@ used-is t = count-agrees (λ i. isUsedNode (at (decode t) i)) (isUsed t) (record
 
 -- ---- a fitting swap of a table that is accepted
 
-module _ (t r o : List ℕ) (k : ℕ) (usable : Usable t r o) (level : k + 1 < length o) (fit : fitsIn t r (xAt o k) (yAt o k) ≡ true) where
+module _ (t r o : List ℕ) (k : ℕ) (usable : Usable t r o) (level : k + 1 < length o) (fit : fitsIn t (xAt o k) (yAt o k) ≡ true) where
   abbrev x : ℕ
   x = xAt o k
 
@@ -89,7 +90,7 @@ module _ (t r o : List ℕ) (k : ℕ) (usable : Usable t r o) (level : k + 1 < l
   abbrev t′ : List ℕ
   t′ = tableAfter t r x y
 
-  fit-decoded : fits plain (at (decode t)) (length (decode t)) x y (rootsOf r) ≡ true
+  fit-decoded : fits plain (at (decode t)) (length (decode t)) x y ≡ true
   fit-decoded = rw (length-decode t) fit
 
   before : Diagram Constant (lookup t) (Among (rootsOf r)) (levelOf o) (length o)
@@ -179,16 +180,16 @@ module _ (t r o : List ℕ) (k : ℕ) (usable : Usable t r o) (level : k + 1 < l
   swap-cofactors q c = rw decode-after (cofactors (decode t) (plain-written (decode t)) (rootsOf r) o k (usable .order) level fit-decoded before q c)
 
   -- the used records are those before, plus new, less dying
-  pub swap-used : used t′ + dying plain (at (decode t)) (records t) x y (rootsOf r) ≡ used t + needed plain (at (decode t)) (records t) x y (rootsOf r)
+  pub swap-used : used t′ + dyingIn t r x y ≡ used t + neededIn t x y
   swap-used =
-      let e : usedCount (at S) (records t) + dying plain (at (decode t)) (records t) x y (rootsOf r) ≡ usedCount (at (decode t)) (records t) + needed plain (at (decode t)) (records t) x y (rootsOf r) =
+      let e : usedCount (at S) (records t) + dyingIn t r x y ≡ usedCount (at (decode t)) (records t) + neededIn t x y =
       rw (length-decode t) at (swap-count (decode t) (plain-written (decode t)) (rootsOf r) o k (usable .order) level fit-decoded) in
       let u : used t′ ≡ usedCount (at S) (records t) = used-is t′ ∙ rw (decode-after, records-after t r x y) in
       rw (u, used-is t) e
 
   -- "Nothing else changes.": a record that does not cross, that no new one goes to and that does not die keeps its eight bytes
   pub kept-bytes : ((j : ℕ) → getD t j 0 < 256) → (i : ℕ) → i < records t → crosses (lookup t) x y (ref i) ≡ false
-      → filled plain (at (decode t)) (records t) x y (rootsOf r) i ≡ false → dies plain (at (decode t)) (records t) x y (rootsOf r) (ref i) ≡ false
+      → filled plain (at (decode t)) (records t) x y i ≡ false → dies plain (at (decode t)) (records t) x y (rootsOf r) (ref i) ≡ false
       → take recordSize (drop (recordSize * i) t′) ≡ take recordSize (drop (recordSize * i) t)
   unfolding tableAfter
   kept-bytes bytes i b c g d =
@@ -199,72 +200,66 @@ module _ (t r o : List ℕ) (k : ℕ) (usable : Usable t r o) (level : k + 1 < l
 
 -- ---- room
 
-module _ (t r : List ℕ) (x y : ℕ) where
-  abbrev pub Needed : ℕ
-  Needed = needed plain (at (decode t)) (records t) x y (rootsOf r)
-
-  abbrev pub Free : ℕ
-  Free = freeCount plain (at (decode t)) (records t) x y (rootsOf r)
-
-  fits-if : Needed ≤ Free → fitsIn t r x y ≡ true
+module _ (t : List ℕ) (x y : ℕ) where
+  fits-if : neededIn t x y ≤ freeIn t → fitsIn t x y ≡ true
   unfolding fits
-  fits-if h = le-leb Needed Free h
+  fits-if h = le-leb (neededIn t x y) (freeIn t) h
 
-  pub fits-then : fitsIn t r x y ≡ true → Needed ≤ Free
+  pub fits-then : fitsIn t x y ≡ true → neededIn t x y ≤ freeIn t
   unfolding fits
-  fits-then e = leb-true Needed Free e
+  fits-then e = leb-true (neededIn t x y) (freeIn t) e
 
-  unfit : Free < Needed → fitsIn t r x y ≡ false
+  unfit : freeIn t < neededIn t x y → fitsIn t x y ≡ false
   unfolding fits
-  unfit h = denies (says-leb Needed Free) (λ e. omega arith)
+  unfit h = denies (says-leb (neededIn t x y) (freeIn t)) (λ e. omega arith)
 
-  pub unfit-then : fitsIn t r x y ≡ false → Free < Needed
+  pub unfit-then : fitsIn t x y ≡ false → freeIn t < neededIn t x y
   unfolding fits
-  unfit-then e = leb-false Needed Free e
+  unfit-then e = leb-false (neededIn t x y) (freeIn t) e
 
-  pub room-made : Needed ≤ Free → roomOf t r x y ≡ room.Made
+  pub room-made : neededIn t x y ≤ freeIn t → roomOf t x y ≡ room.Made
   unfolding roomOf
   room-made h = rw (fits-if h)
 
-  pub no-room : Free < Needed → roomOf t r x y ≡ room.NoRoom Needed Free
+  pub no-room : freeIn t < neededIn t x y → roomOf t x y ≡ room.NoRoom (neededIn t x y) (freeIn t)
   unfolding roomOf
   no-room h = rw (unfit h)
 
-  pub room-made-only : roomOf t r x y ≡ room.Made → Needed ≤ Free
-  room-made-only e = fits-then (room-fits t r x y (sym e))
+  pub room-made-only : roomOf t x y ≡ room.Made → neededIn t x y ≤ freeIn t
+  room-made-only e = fits-then (room-fits t x y (sym e))
 
-  pub no-room-only : (n f : ℕ) → roomOf t r x y ≡ room.NoRoom n f → (Free < Needed) × (n ≡ Needed) × (f ≡ Free)
-  no-room-only n f e = let w = room-lacks t r x y n f (sym e) in (unfit-then (w .0), w .1, w .2)
+  pub no-room-only : (n f : ℕ) → roomOf t x y ≡ room.NoRoom n f → (freeIn t < neededIn t x y) × (n ≡ neededIn t x y) × (f ≡ freeIn t)
+  no-room-only n f e = let w = room-lacks t x y n f (sym e) in (unfit-then (w .0), w .1, w .2)
 
-  pub made-exactly : (Needed ≤ Free → roomOf t r x y ≡ room.Made) × (roomOf t r x y ≡ room.Made → Needed ≤ Free)
+  pub made-exactly : (neededIn t x y ≤ freeIn t → roomOf t x y ≡ room.Made) × (roomOf t x y ≡ room.Made → neededIn t x y ≤ freeIn t)
   made-exactly = (room-made, room-made-only)
 
   -- "No room is given exactly when needed is above free.", with these two
-  pub no-room-exactly : (n f : ℕ) → ((Free < Needed) × (n ≡ Needed) × (f ≡ Free) → roomOf t r x y ≡ room.NoRoom n f) × (roomOf t r x y ≡ room.NoRoom n f → (Free < Needed) × (n ≡ Needed) × (f ≡ Free))
+  pub no-room-exactly : (n f : ℕ) → ((freeIn t < neededIn t x y) × (n ≡ neededIn t x y) × (f ≡ freeIn t) → roomOf t x y ≡ room.NoRoom n f) × (roomOf t x y ≡ room.NoRoom n f → (freeIn t < neededIn t x y) × (n ≡ neededIn t x y) × (f ≡ freeIn t))
   no-room-exactly n f = (λ w. rw (w .1, w .2) (no-room (w .0)), no-room-only n f)
 
 -- ---- the entry
 
 -- Swap of a table that is accepted, at two levels of its order
 module _ (t r o : List ℕ) (k : ℕ) (usable : Usable t r o) (level : k + 1 < length o) where
-  swap-clear : judge (swapStages t r o k) ≡ verdict.Clear
+  swap-clear : verdictOf (swapStages t r o k) ≡ verdict.Clear
   unfolding swapStages
   swap-clear =
       sym (row-passes (checkStages t r o) (stageAt 12 k (noLevel o k) ∷ []) refl (clear-if (checkStages t r o) (all-pass t r o (usable-then t r o usable)))
       (place-passes 12 k (noLevel o k) false verdict.Clear verdict.Clear (sym (lt-leb (length o - 1) k (omega arith))) refl refl))
 
-  swap-is : swapOf t r o k ≡ swapAfter t r o k (roomOf t r (xAt o k) (yAt o k))
+  swap-is : swapOf t r o k ≡ swapAfter t r o k (roomOf t (xAt o k) (yAt o k))
   unfolding swapOf
   swap-is = ap (swapJudged t r o k) swap-clear
 
   -- it is made when needed is not above free; `made-only` says that it is made in no other case
-  pub swap-made : Needed t r (xAt o k) (yAt o k) ≤ Free t r (xAt o k) (yAt o k) → swapOf t r o k ≡ record { answer = Made; table = tableAfter t r (xAt o k) (yAt o k); order = exchange o k }
-  swap-made h = swap-is ∙ ap (swapAfter t r o k) (room-made t r (xAt o k) (yAt o k) h)
+  pub swap-made : neededIn t (xAt o k) (yAt o k) ≤ freeIn t → swapOf t r o k ≡ record { answer = Made; table = tableAfter t r (xAt o k) (yAt o k); order = exchange o k }
+  swap-made h = swap-is ∙ ap (swapAfter t r o k) (room-made t (xAt o k) (yAt o k) h)
 
   -- "No room is given exactly when needed is above free": when it is, with these two, and nothing changes; `lacks-only` says that it is given in no other case
-  pub swap-lacks : Free t r (xAt o k) (yAt o k) < Needed t r (xAt o k) (yAt o k)
-      → swapOf t r o k ≡ record { answer = NoRoom k (Needed t r (xAt o k) (yAt o k)) (Free t r (xAt o k) (yAt o k)); table = t; order = o }
-  swap-lacks h = swap-is ∙ ap (swapAfter t r o k) (no-room t r (xAt o k) (yAt o k) h)
+  pub swap-lacks : freeIn t < neededIn t (xAt o k) (yAt o k)
+      → swapOf t r o k ≡ record { answer = NoRoom k (neededIn t (xAt o k) (yAt o k)) (freeIn t); table = t; order = o }
+  swap-lacks h = swap-is ∙ ap (swapAfter t r o k) (no-room t (xAt o k) (yAt o k) h)
 
 -- and of no other one: what isn't refused was accepted, and has the two levels
 module _ (t r o : List ℕ) (k : ℕ) where
@@ -278,32 +273,32 @@ module _ (t r o : List ℕ) (k : ℕ) where
       there (also h rest) = omega (arith, leb-false (length o - 1) k (passed-only k h))
 
   -- an answer that is no refusal comes from a table that passed
-  passed : (a : Swapping) → swapOf t r o k .answer ≡ a → ((n p : ℕ) → a ≡ Refused n p → ⊥) → judge (swapStages t r o k) ≡ verdict.Clear
+  passed : (a : SwapAnswer) → swapOf t r o k .answer ≡ a → ((w : Refusal) → a ≡ Refused w → ⊥) → verdictOf (swapStages t r o k) ≡ verdict.Clear
   unfolding swapOf
-  passed a e f = go (judge (swapStages t r o k)) e
+  passed a e f = go (verdictOf (swapStages t r o k)) e
     where
       go : (v : Verdict) → swapJudged t r o k v .answer ≡ a → v ≡ verdict.Clear
       go verdict.Clear q = refl
-      go (verdict.Refused n p) q = absurd (f n p (sym q))
+      go (verdict.Refused w) q = absurd (f w (sym q))
 
-  pub made-only : swapOf t r o k .answer ≡ Made → (Usable t r o × (k + 1 < length o)) × (fitsIn t r (xAt o k) (yAt o k) ≡ true)
+  pub made-only : swapOf t r o k .answer ≡ Made → (Usable t r o × (k + 1 < length o)) × (fitsIn t (xAt o k) (yAt o k) ≡ true)
   unfolding swapOf
   made-only e =
-      let c : judge (swapStages t r o k) ≡ verdict.Clear = passed Made e (λ n p q. apart (cc)) in
-      (swap-starts (clear-only (swapStages t r o k) c), fits-if t r (xAt o k) (yAt o k) (room-made-only t r (xAt o k) (yAt o k) (go (roomOf t r (xAt o k) (yAt o k)) (rw c at e))))
+      let c : verdictOf (swapStages t r o k) ≡ verdict.Clear = passed Made e (λ w q. apart (cc)) in
+      (swap-starts (clear-only (swapStages t r o k) c), fits-if t (xAt o k) (yAt o k) (room-made-only t (xAt o k) (yAt o k) (go (roomOf t (xAt o k) (yAt o k)) (rw c at e))))
     where
       go : (a : Room) → swapAfter t r o k a .answer ≡ Made → a ≡ room.Made
       go room.Made q = refl
       go (room.NoRoom n f) q = apart (cc)
 
   pub lacks-only : (j n f : ℕ) → swapOf t r o k .answer ≡ NoRoom j n f
-      → (Usable t r o × (k + 1 < length o)) × (Free t r (xAt o k) (yAt o k) < Needed t r (xAt o k) (yAt o k))
-      × (j ≡ k) × (n ≡ Needed t r (xAt o k) (yAt o k)) × (f ≡ Free t r (xAt o k) (yAt o k))
+      → (Usable t r o × (k + 1 < length o)) × (freeIn t < neededIn t (xAt o k) (yAt o k))
+      × (j ≡ k) × (n ≡ neededIn t (xAt o k) (yAt o k)) × (f ≡ freeIn t)
   unfolding swapOf
   lacks-only j n f e =
-      let c : judge (swapStages t r o k) ≡ verdict.Clear = passed (NoRoom j n f) e (λ m p q. apart (cc)) in
-      let w = go (roomOf t r (xAt o k) (yAt o k)) (rw c at e) in
-      let l = no-room-only t r (xAt o k) (yAt o k) n f (w .1) in
+      let c : verdictOf (swapStages t r o k) ≡ verdict.Clear = passed (NoRoom j n f) e (λ w q. apart (cc)) in
+      let w = go (roomOf t (xAt o k) (yAt o k)) (rw c at e) in
+      let l = no-room-only t (xAt o k) (yAt o k) n f (w .1) in
       (swap-starts (clear-only (swapStages t r o k) c), l .0, w .0, l .1, l .2)
     where
       go : (a : Room) → swapAfter t r o k a .answer ≡ NoRoom j n f → (j ≡ k) × (a ≡ room.NoRoom n f)
@@ -313,7 +308,7 @@ module _ (t r o : List ℕ) (k : ℕ) where
   -- so a made swap leaves an accepted table under the exchanged order, and every root's values
   module _ (made : swapOf t r o k .answer ≡ Made) where
     pub made-is : swapOf t r o k ≡ record { answer = Made; table = tableAfter t r (xAt o k) (yAt o k); order = exchange o k }
-    made-is = let w = made-only made in swap-made t r o k (w .0 .0) (w .0 .1) (fits-then t r (xAt o k) (yAt o k) (w .1))
+    made-is = let w = made-only made in swap-made t r o k (w .0 .0) (w .0 .1) (fits-then t (xAt o k) (yAt o k) (w .1))
 
     pub made-usable : Usable (swapOf t r o k .table) r (swapOf t r o k .order)
     made-usable = let w = made-only made in rw made-is (swap-usable t r o k (w .0 .0) (w .0 .1) (w .1))
@@ -323,22 +318,22 @@ module _ (t r o : List ℕ) (k : ℕ) where
     made-root-value inputs position b = let w = made-only made in rw made-is (swap-root-value t r o k (w .0 .0) (w .0 .1) (w .1) inputs position b)
 
 -- one outcome for each input
-pub swap-one : (t r o : List ℕ) (k : ℕ) {a b : Swapping} {t₁ t₂ o₁ o₂ : List ℕ} → SwapOutcome t r o k a t₁ o₁ → SwapOutcome t r o k b t₂ o₂ → (a ≡ b) × (t₁ ≡ t₂) × (o₁ ≡ o₂)
+pub swap-one : (t r o : List ℕ) (k : ℕ) {a b : SwapAnswer} {t₁ t₂ o₁ o₂ : List ℕ} → SwapOutcome t r o k a t₁ o₁ → SwapOutcome t r o k b t₂ o₂ → (a ≡ b) × (t₁ ≡ t₂) × (o₁ ≡ o₂)
 swap-one t r o k p q = (ap (λ (s : Swapped). s .answer) (p ∙ sym q), ap (λ (s : Swapped). s .table) (p ∙ sym q), ap (λ (s : Swapped). s .order) (p ∙ sym q))
 
 -- Swap refuses with n at p exactly where check n fails at p, at no place before it, and every earlier check passes everywhere; it changes nothing then
-pub swap-refuses : (t r o : List ℕ) (k n p : ℕ) → FailsFirst (swapStages t r o k) n p → swapOf t r o k ≡ record { answer = Refused n p; table = t; order = o }
+pub swap-refuses : (t r o : List ℕ) (k n p : ℕ) → FailsFirst (swapStages t r o k) n p → swapOf t r o k ≡ record { answer = Refused (refusal n p); table = t; order = o }
 unfolding swapOf
 swap-refuses t r o k n p f = ap (swapJudged t r o k) (refused-if (swapStages t r o k) n p f)
 
-pub swap-refuses-only : (t r o : List ℕ) (k n p : ℕ) → swapOf t r o k .answer ≡ Refused n p → FailsFirst (swapStages t r o k) n p
+pub swap-refuses-only : (t r o : List ℕ) (k n p : ℕ) → swapOf t r o k .answer ≡ Refused (refusal n p) → FailsFirst (swapStages t r o k) n p
 unfolding swapOf
-swap-refuses-only t r o k n p e = refused-only (swapStages t r o k) n p (go (judge (swapStages t r o k)) e)
+swap-refuses-only t r o k n p e = refused-only (swapStages t r o k) n p (go (verdictOf (swapStages t r o k)) e)
   where
-    room-answers : (a : Room) → swapAfter t r o k a .answer ≡ Refused n p → verdict.Clear ≡ verdict.Refused n p
+    room-answers : (a : Room) → swapAfter t r o k a .answer ≡ Refused (refusal n p) → verdict.Clear ≡ verdict.Refused (refusal n p)
     room-answers room.Made e = apart (cc)
     room-answers (room.NoRoom a b) e = apart (cc)
 
-    go : (v : Verdict) → swapJudged t r o k v .answer ≡ Refused n p → v ≡ verdict.Refused n p
-    go verdict.Clear e = room-answers (roomOf t r (xAt o k) (yAt o k)) e
-    go (verdict.Refused j q) e = let a : j ≡ n = cc in let b : q ≡ p = cc in rw (a, b)
+    go : (v : Verdict) → swapJudged t r o k v .answer ≡ Refused (refusal n p) → v ≡ verdict.Refused (refusal n p)
+    go verdict.Clear e = room-answers (roomOf t (xAt o k) (yAt o k)) e
+    go (verdict.Refused w) e = cc

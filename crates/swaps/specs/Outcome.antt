@@ -12,26 +12,39 @@ use Rattle.diagrams.specs.Layout.{records}
 use Rattle.diagrams.specs.Node.{at}
 use Rattle.diagrams.specs.Decode.{decode, encode}
 use Rattle.diagrams.specs.Lookup.{rootsOf}
-use Rattle.checks.specs.Stages.{Stage, stageAt, judge}
+use Rattle.checks.specs.Stages.{Stage, stageAt, verdictOf}
 use Rattle.checks.specs.Check.{checkStages}
 use Rattle.checks.specs.declared.Verdict.{Verdict}
 use Rattle.checks.specs.declared.Verdict.the-variants as verdict
 use Rattle.diagrams.specs.Edition.{plain}
-use Rattle.swap_rules.specs.Swap.{xAt, yAt, needed, freeCount, fits, swapped}
+use Rattle.swap_rules.specs.Swap.{xAt, yAt, needed, freeCount, fits, dying, swapped}
 use Rattle.swaps.specs.declared.Room.{Room}
 use Rattle.swaps.specs.declared.Room.the-variants as room
-use Rattle.swaps.specs.declared.Swapping.{Swapping}
-use Rattle.swaps.specs.declared.Swapping.the-variants.{Made, NoRoom, Refused}
+use Rattle.swaps.specs.declared.SwapAnswer.{SwapAnswer}
+use Rattle.swaps.specs.declared.SwapAnswer.the-variants.{Made, NoRoom, Refused}
 
--- ---- of a table that is accepted, with x and y at the two levels
+-- ---- the numbers of a swap of the stored table t, where x and y are the variables of the two levels
 
-abbrev pub fitsIn : List ℕ → List ℕ → ℕ → ℕ → Bool
-fitsIn t r x y = fits plain (at (decode t)) (records t) x y (rootsOf r)
+-- needed: how many new records the swap makes
+abbrev pub neededIn : List ℕ → ℕ → ℕ → ℕ
+neededIn t x y = needed plain (at (decode t)) (records t) x y
 
-unfoldable pub roomOf : List ℕ → List ℕ → ℕ → ℕ → Room
-roomOf t r x y =
-    cond (fitsIn t r x y) room.Made
-    (room.NoRoom (needed plain (at (decode t)) (records t) x y (rootsOf r)) (freeCount plain (at (decode t)) (records t) x y (rootsOf r)))
+-- free: how many records are free before it
+abbrev pub freeIn : List ℕ → ℕ
+freeIn t = freeCount (at (decode t)) (records t)
+
+-- there is room unless needed is above free
+abbrev pub fitsIn : List ℕ → ℕ → ℕ → Bool
+fitsIn t x y = fits plain (at (decode t)) (records t) x y
+
+-- how many records become free: y records that neither the roots r nor a record names any more
+abbrev pub dyingIn : List ℕ → List ℕ → ℕ → ℕ → ℕ
+dyingIn t r x y = dying plain (at (decode t)) (records t) x y (rootsOf r)
+
+-- ---- of a table that is accepted
+
+unfoldable pub roomOf : List ℕ → ℕ → ℕ → Room
+roomOf t x y = cond (fitsIn t x y) room.Made (room.NoRoom (neededIn t x y) (freeIn t))
 
 -- the table afterwards, where there is room
 unfoldable pub tableAfter : List ℕ → List ℕ → ℕ → ℕ → List ℕ
@@ -39,13 +52,13 @@ tableAfter t r x y = encode (swapped plain (decode t) x y (rootsOf r))
 
 -- the image holds the table afterwards
 pub record Prepared (t r : List ℕ) (x y : ℕ) (a : Room) (image : List ℕ) : Type 0 where
-  pub answer : a ≡ roomOf t r x y
-  pub table : fitsIn t r x y ≡ true → take (length t) image ≡ tableAfter t r x y
+  pub answer : a ≡ roomOf t x y
+  pub table : fitsIn t x y ≡ true → take (length t) image ≡ tableAfter t r x y
 
 -- a swap of the table alone
 pub record RoomOutcome (t r : List ℕ) (x y : ℕ) (a : Room) (t′ : List ℕ) : Type 0 where
-  pub answer : a ≡ roomOf t r x y
-  pub table : t′ ≡ cond (fitsIn t r x y) (tableAfter t r x y) t
+  pub answer : a ≡ roomOf t x y
+  pub table : t′ ≡ cond (fitsIn t x y) (tableAfter t r x y) t
 
 -- ---- the entry
 
@@ -58,7 +71,7 @@ swapStages t r o k = checkStages t r o ++ (stageAt 12 k (noLevel o k) ∷ [])
 
 -- the answer and every buffer that is lent for writing
 pub record Swapped : Type 0 where
-  pub answer : Swapping
+  pub answer : SwapAnswer
   pub table : List ℕ
   pub order : List ℕ
 
@@ -68,42 +81,42 @@ swapAfter t r o k room.Made = record { answer = Made; table = tableAfter t r (xA
 swapAfter t r o k (room.NoRoom needed free) = record { answer = NoRoom k needed free; table = t; order = o }
 
 abbrev pub swapJudged : List ℕ → List ℕ → List ℕ → ℕ → Verdict → Swapped
-swapJudged t r o k verdict.Clear = swapAfter t r o k (roomOf t r (xAt o k) (yAt o k))
-swapJudged t r o k (verdict.Refused number place) = record { answer = Refused number place; table = t; order = o }
+swapJudged t r o k verdict.Clear = swapAfter t r o k (roomOf t (xAt o k) (yAt o k))
+swapJudged t r o k (verdict.Refused w) = record { answer = Refused w; table = t; order = o }
 
 unfoldable pub swapOf : List ℕ → List ℕ → List ℕ → ℕ → Swapped
-swapOf t r o k = swapJudged t r o k (judge (swapStages t r o k))
+swapOf t r o k = swapJudged t r o k (verdictOf (swapStages t r o k))
 
 -- what Swap may answer, and leave in the buffers
-abbrev pub SwapOutcome : List ℕ → List ℕ → List ℕ → ℕ → Swapping → List ℕ → List ℕ → Type 0
+abbrev pub SwapOutcome : List ℕ → List ℕ → List ℕ → ℕ → SwapAnswer → List ℕ → List ℕ → Type 0
 SwapOutcome t r o k a t′ o′ = record { answer = a; table = t′; order = o′ } ≡ swapOf t r o k
 
 -- the paper's number and values of each answer; 0 stands for made and 100 for no room
-abbrev pub numbers : Swapping → List ℕ
+abbrev pub numbers : SwapAnswer → List ℕ
 numbers Made = 0 ∷ []
 numbers (NoRoom level needed free) = 100 ∷ level ∷ needed ∷ free ∷ []
-numbers (Refused number place) = number ∷ place ∷ []
+numbers (Refused w) = w .number ∷ w .place ∷ []
 
 -- ---- what an answer says of the room
 
-module _ (t r : List ℕ) (x y : ℕ) where
+module _ (t : List ℕ) (x y : ℕ) where
   abbrev lacking : Room
-  lacking = room.NoRoom (needed plain (at (decode t)) (records t) x y (rootsOf r)) (freeCount plain (at (decode t)) (records t) x y (rootsOf r))
+  lacking = room.NoRoom (neededIn t x y) (freeIn t)
 
-  pub room-fits : room.Made ≡ roomOf t r x y → fitsIn t r x y ≡ true
+  pub room-fits : room.Made ≡ roomOf t x y → fitsIn t x y ≡ true
   unfolding roomOf
-  room-fits e = go (fitsIn t r x y) e
+  room-fits e = go (fitsIn t x y) e
     where
       go : (b : Bool) → room.Made ≡ cond b room.Made lacking → b ≡ true
       go true q = refl
       go false q = apart (cc)
 
-  pub room-lacks : (n f : ℕ) → room.NoRoom n f ≡ roomOf t r x y
-      → (fitsIn t r x y ≡ false) × (n ≡ needed plain (at (decode t)) (records t) x y (rootsOf r)) × (f ≡ freeCount plain (at (decode t)) (records t) x y (rootsOf r))
+  pub room-lacks : (n f : ℕ) → room.NoRoom n f ≡ roomOf t x y
+      → (fitsIn t x y ≡ false) × (n ≡ neededIn t x y) × (f ≡ freeIn t)
   unfolding roomOf
-  room-lacks n f e = go (fitsIn t r x y) e
+  room-lacks n f e = go (fitsIn t x y) e
     where
       go : (b : Bool) → room.NoRoom n f ≡ cond b room.Made lacking
-          → (b ≡ false) × (n ≡ needed plain (at (decode t)) (records t) x y (rootsOf r)) × (f ≡ freeCount plain (at (decode t)) (records t) x y (rootsOf r))
+          → (b ≡ false) × (n ≡ neededIn t x y) × (f ≡ freeIn t)
       go true q = apart (cc)
       go false q = (refl, (cc), (cc))

@@ -6,6 +6,7 @@ ghost use lib.ListN.{length, take};
 ghost use Rattle.diagrams.specs.Layout.{mostRecords, recordSize};
 ghost use Rattle.check_records.specs.Meaning.{Sized};
 ghost use Rattle.swaps.specs.Outcome.{roomOf, Prepared, RoomOutcome, SwapOutcome};
+use checks::Refusal;
 use checks::Verdict;
 use diagrams::MOST_RECORDS;
 use diagrams::RECORD_SIZE;
@@ -22,17 +23,15 @@ pub enum Room {
     NoRoom { needed: usize, free: usize },
 }
 
-pub enum Swapping {
+// What Swap answers.
+pub enum SwapAnswer {
     Made,
     NoRoom {
         level: usize,
         needed: usize,
         free: usize,
     },
-    Refused {
-        number: u8,
-        place: usize,
-    },
+    Refused(Refusal),
 }
 
 // ---- the work area
@@ -93,7 +92,7 @@ fn prepare(table: &[u8], roots: &[u8], x: Variable, y: Variable, image: &mut [u8
 // Is there room for the swap of x and y in an accepted table? Nothing is written.
 pub fn has_room(table: &[u8], roots: &[u8], x: Variable, y: Variable) -> Room
     requires { ⌜ Sized (now table) (now roots) × ((x .0 < 256) × (y .0 < 256)) ⌝ }
-    ensures { λ a. ⌜ a ≡ roomOf (now (table .entry)) (now (roots .entry)) (x .0) (y .0) ⌝ }
+    ensures { λ a. ⌜ a ≡ roomOf (now (table .entry)) (x .0) (y .0) ⌝ }
 {
     let mut image = no_image();
     prepare(table, roots, x, y, &mut image)
@@ -127,24 +126,24 @@ pub fn swap_table(table: &mut [u8], roots: &[u8], x: Variable, y: Variable) -> R
     }
 }
 
-pub fn swap(table: &mut [u8], roots: &[u8], order: &mut [u8], level: usize) -> Swapping
+pub fn swap(table: &mut [u8], roots: &[u8], order: &mut [u8], level: usize) -> SwapAnswer
     ensures { λ a. ⌜ SwapOutcome (now (table .entry)) (now (roots .entry)) (now (order .entry)) level a (now (table .exit)) (now (order .exit)) ⌝ }
 {
-    let verdict = checks::judge_all(table, roots, order);
-    if let Verdict::Refused { number, place } = verdict {
-        return Swapping::Refused { number, place };
+    let verdict = checks::verdict_of_all(table, roots, order);
+    if let Verdict::Refused(refusal) = verdict {
+        return SwapAnswer::Refused(refusal);
     }
     if order.len() - 1 <= level {
-        return Swapping::Refused {
+        return SwapAnswer::Refused(Refusal {
             number: 12,
             place: level,
-        };
+        });
     }
     let before = Order::load(order);
     let x = before.variable_at(level);
     let y = before.variable_at(level + 1);
     match swap_table(table, roots, x, y) {
-        Room::NoRoom { needed, free } => Swapping::NoRoom {
+        Room::NoRoom { needed, free } => SwapAnswer::NoRoom {
             level,
             needed,
             free,
@@ -152,7 +151,7 @@ pub fn swap(table: &mut [u8], roots: &[u8], order: &mut [u8], level: usize) -> S
         Room::Made => {
             let after = before.exchanged(level);
             after.store(order);
-            Swapping::Made
+            SwapAnswer::Made
         }
     }
 }

@@ -7,7 +7,7 @@ use diagrams::RECORD_SIZE;
 use diagrams::ROOT_SIZE;
 use libc::STDOUT_FILENO;
 use orders::Order;
-use slices::Slice;
+use slices::RunAnswer;
 
 // What came of reading a file: so many bytes, or that standard error was told why it can't be read.
 enum File {
@@ -53,7 +53,7 @@ fn load(path: &[u8], buffer: &mut [u8]) -> File
 }
 
 // Prints an answer and its listing in one write.
-fn print(answer: Slice, table: &[u8], roots: &[u8], order: &[u8])
+fn print(answer: RunAnswer, table: &[u8], roots: &[u8], order: &[u8])
     requires { ⌜ Held (now table) (now roots) (now order) ⌝ }
 {
     let mut text = [0u8; listing::MOST_TEXT];

@@ -1,11 +1,11 @@
 use borrow.Author.Needs.{needs}
 use Rattle.diagrams.specs.Node.{no-constant}
 use Rattle.reading.proofs.Laws.{showing}
-use Rattle.reading.proofs.place.Statement.{statement}
-use Rattle.reading.proofs.place.Tie as tie
+use Rattle.reading.proofs.shown_part.Statement.{statement}
+use Rattle.reading.proofs.shown_part.Tie as tie
 
-pub place-spec : {M : Type 1} → statement M
-place-spec =
+pub shown-part-spec : {M : Type 1} → statement M
+shown-part-spec =
     tie.close
     (tie.spec
     (λ c κs. search needs)

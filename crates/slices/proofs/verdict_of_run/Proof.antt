@@ -3,12 +3,12 @@ use native.Mathlib.Omega.{arith}
 use borrow.Author.Needs.{needs}
 use Rattle.slices.specs.Run.{runStages}
 use Rattle.slices.proofs.Laws.{sizes-right, refusing}
-use Rattle.slices.proofs.judge_run.Statement.{statement}
-use Rattle.slices.proofs.judge_run.Tie as tie
+use Rattle.slices.proofs.verdict_of_run.Statement.{statement}
+use Rattle.slices.proofs.verdict_of_run.Tie as tie
 
-pub judge-run-spec : {M : Type 1} → statement M
+pub verdict-of-run-spec : {M : Type 1} → statement M
 unfolding runStages
-judge-run-spec =
+verdict-of-run-spec =
     tie.close
     (tie.spec
     (λ c κs. search needs)
