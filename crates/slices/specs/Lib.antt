@@ -1,6 +1,4 @@
 pub mod Slices
-
-
 pub mod Run
 pub mod Theorems
 pub mod Bounds

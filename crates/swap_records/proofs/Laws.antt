@@ -20,6 +20,7 @@ use Rattle.swap_rules.specs.Record.{lowOf, highOf, isOf, of-true}
 use Rattle.swap_rules.specs.Swap.{grandchild, crosses}
 use Rattle.swap_records.specs.Kinds.{ofAt, crossesAt, standsAt, childAt, of-is}
 use Rattle.swap_records.specs.Listed.{RoomFor, Splits, Splitting, listing-begins, listing-room, listing-small, listing-passes, listing-goes, listing-ends}
+use Rattle.swap_records.specs.declared.Pair.{Pair}
 use Rattle.swap_records.specs.declared.collect.Split.{Split}
 
 -- ---- a used record of a variable
@@ -51,8 +52,8 @@ module _ (t : List ℕ) (x y : ℕ) where
   crossing-by i true q l = rw (free-of t i l (eqb-true (variableAt t i) 255 q))
   crossing-by i false q l = rw (node-of t i l (eqb-false (variableAt t i) 255 q))
 
-  pub crossing-at : (i : ℕ) {a b c : Bool} {l h : ℕ} → a ≡ isOf x (lookup t (ref i)) → l ≡ lowAt t i → b ≡ isOf y (lookup t l) → h ≡ highAt t i → c ≡ isOf y (lookup t h) → InTable t i
-      → (a && (b || c)) ≡ crosses (lookup t) x y (ref i)
+  pub crossing-at : (i : ℕ) {a b c : Bool} {l h : ℕ} → a ≡ isOf x (lookup t (ref i)) → l ≡ lowAt t i → b ≡ isOf y (lookup t l)
+      → h ≡ highAt t i → c ≡ isOf y (lookup t h) → InTable t i → (a && (b || c)) ≡ crosses (lookup t) x y (ref i)
   crossing-at i p q r s u l = rw (p, r, q, u, s) (crossing-by i (isFree t i) refl (omega arith))
 
 -- ---- a grandchild
@@ -82,37 +83,38 @@ module _ (t : List ℕ) (y : ℕ) where
   stored-side side (record-at i b u) e = let z : ref i - 2 ≡ i = omega arith in rw (z, e, node-of t i b u)
 
   -- a child that is a y record: its own child on that side
-  pub grand-child : {b : Bool} {i r : ℕ} (c : ℕ) (side : Bool) → b ≡ isOf y (lookup t c) → b ≡ true → i ≡ c - 2 → r ≡ childAt t i side → r ≡ grandchild (lookup t) y side c
+  pub grand-child : {b : Bool} {i r : ℕ} (c : ℕ) (side : Bool) → b ≡ isOf y (lookup t c) → b ≡ true → i ≡ c - 2 → r ≡ childAt t i side
+      → r ≡ grandchild (lookup t) y side c
   grand-child c side e h p q = q ∙ rw p (stored-side side (stored t c (of-true y (lookup t c) (sym e ∙ h) .is)) (sym e ∙ h))
 
 pub ruleset grand = (named-two, named-there, grand-self, grand-child, needs)
 
 -- a used record's child on one side, and the grandchild through it on another
-pub grand-of : (way : Bool) (t : List ℕ) (y i : ℕ) {c r : ℕ} (side : Bool) → r ≡ grandchild (lookup t) y side c → c ≡ childAt t i way → isFree t i ≡ false → InTable t i
-    → r ≡ grandchild (lookup t) y side (pick way (lowOf (lookup t (ref i))) (highOf (lookup t (ref i))))
+pub grand-of : (way : Bool) (t : List ℕ) (y i : ℕ) {c r : ℕ} (side : Bool) → r ≡ grandchild (lookup t) y side c → c ≡ childAt t i way
+    → isFree t i ≡ false → InTable t i → r ≡ grandchild (lookup t) y side (pick way (lowOf (lookup t (ref i))) (highOf (lookup t (ref i))))
 unfolding lowOf highOf
 grand-of way t y i side p e f l = rw (node-of t i (omega arith) (eqb-false (variableAt t i) 255 f), ← e) p
 
 -- ---- the x records, split
 
-module _ {t : List ℕ} {x y : ℕ} {crossing standing : List ℕ} where
-  pub split-begins : RoomFor t crossing → RoomFor t standing → Splitting t x y 0 crossing standing (record { crossing = 0; standing = 0 })
+module _ {t : List ℕ} {p : Pair} {crossing standing : List ℕ} where
+  pub split-begins : RoomFor t crossing → RoomFor t standing → Splitting t p 0 crossing standing (record { crossing = 0; standing = 0 })
   split-begins c s = record { crosses = listing-begins refl c; stands = listing-begins refl s }
 
-  module _ {i : ℕ} {s : Split} (w : Splitting t x y i crossing standing s) where
-    pub split-passes : {b : Bool} → b ≡ ofAt t x i → b ≡ false → i < records t → Splitting t x y (i + 1) crossing standing s
+  module _ {i : ℕ} {s : Split} (w : Splitting t p i crossing standing s) where
+    pub split-passes : {b : Bool} → b ≡ ofAt t (p .x .0) i → b ≡ false → i < records t → Splitting t p (i + 1) crossing standing s
     unfolding crosses standsAt
     split-passes e h l = record { crosses = listing-passes (w .crosses) (rw (sym e ∙ h)) l; stands = listing-passes (w .stands) (rw (sym e ∙ h)) l }
 
     -- an x record crosses or stands
-    pub split-goes : {b c : Bool} {crossing′ standing′ : List ℕ} {j k : ℕ} → b ≡ ofAt t x i → b ≡ true → c ≡ crossesAt t x y i
+    pub split-goes : {b c : Bool} {crossing′ standing′ : List ℕ} {j k : ℕ} → b ≡ ofAt t (p .x .0) i → b ≡ true → c ≡ crossesAt t (p .x .0) (p .y .0) i
         → Pushed c i crossing (s .crossing) crossing′ j → length crossing′ ≡ length crossing
         → Pushed (not c) i standing (s .standing) standing′ k → length standing′ ≡ length standing
-        → i < records t → Splitting t x y (i + 1) crossing′ standing′ (record { crossing = j; standing = k })
+        → i < records t → Splitting t p (i + 1) crossing′ standing′ (record { crossing = j; standing = k })
     unfolding standsAt
-    split-goes e h d p a q b l = record { crosses = listing-goes (w .crosses) d p a l; stands = listing-goes (w .stands) (rw (sym e ∙ h, d)) q b l }
+    split-goes e h d f a g b l = record { crosses = listing-goes (w .crosses) d f a l; stands = listing-goes (w .stands) (rw (sym e ∙ h, d)) g b l }
 
-    pub split-ends : records t ≤ i → Splits t x y crossing standing s
+    pub split-ends : records t ≤ i → Splits t p crossing standing s
     split-ends l = record { crossing-are = listing-ends (w .crosses) l; standing-are = listing-ends (w .stands) l }
 
 pub ruleset splitting = (split-begins, split-passes, split-goes, split-ends, listing-room, listing-small, not-true, not-false, needs)

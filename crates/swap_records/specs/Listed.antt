@@ -15,7 +15,8 @@ use Rattle.diagrams.specs.Node.{ref}
 use Rattle.diagrams.specs.Lookup.{lookup, free-of}
 use Rattle.swap_rules.specs.Record.{isOf}
 use Rattle.swap_rules.specs.Swap.{crosses}
-use Rattle.swap_records.specs.Kinds.{ofAt, crossesAt, standsAt}
+use Rattle.swap_records.specs.Kinds.{crossesAt, standsAt}
+use Rattle.swap_records.specs.declared.Pair.{Pair}
 use Rattle.swap_records.specs.declared.collect.Split.{Split}
 
 -- a list with an entry for each record of a table, and for as many as there can be
@@ -23,24 +24,21 @@ pub record RoomFor (t list : List ℕ) : Type 0 where
   pub few : records t ≤ mostRecords
   pub long : length list ≡ mostRecords
 
--- ---- of the variable v; the free ones; of x, those that cross and those that stand
-
-abbrev pub OfListed : List ℕ → ℕ → List ℕ → ℕ → Type 0
-OfListed t v list k = Collected (ofAt t v) (records t) list k
+-- ---- the free ones; of x, those that cross and those that stand
 
 abbrev pub FreeListed : List ℕ → List ℕ → ℕ → Type 0
 FreeListed t list k = Collected (isFree t) (records t) list k
 
-abbrev pub CrossingListed : List ℕ → ℕ → ℕ → List ℕ → ℕ → Type 0
-CrossingListed t x y list k = Collected (crossesAt t x y) (records t) list k
+abbrev pub CrossingListed : List ℕ → Pair → List ℕ → ℕ → Type 0
+CrossingListed t p list k = Collected (crossesAt t (p .x .0) (p .y .0)) (records t) list k
 
-abbrev pub StandingListed : List ℕ → ℕ → ℕ → List ℕ → ℕ → Type 0
-StandingListed t x y list k = Collected (standsAt t x y) (records t) list k
+abbrev pub StandingListed : List ℕ → Pair → List ℕ → ℕ → Type 0
+StandingListed t p list k = Collected (standsAt t (p .x .0) (p .y .0)) (records t) list k
 
 -- the x records, split
-pub record Splits (t : List ℕ) (x y : ℕ) (crossing standing : List ℕ) (s : Split) : Type 0 where
-  pub crossing-are : CrossingListed t x y crossing (s .crossing)
-  pub standing-are : StandingListed t x y standing (s .standing)
+pub record Splits (t : List ℕ) (p : Pair) (crossing standing : List ℕ) (s : Split) : Type 0 where
+  pub crossing-are : CrossingListed t p crossing (s .crossing)
+  pub standing-are : StandingListed t p standing (s .standing)
 
 -- ---- the loops that fill them
 
@@ -50,9 +48,9 @@ pub record Listing (t : List ℕ) (p : ℕ → Bool) (m i : ℕ) (list : List �
   pub room : RoomFor t list
   pub so-far : Collect p m i list k
 
-pub record Splitting (t : List ℕ) (x y i : ℕ) (crossing standing : List ℕ) (s : Split) : Type 0 where
-  pub crosses : Listing t (crossesAt t x y) (records t) i crossing (s .crossing)
-  pub stands : Listing t (standsAt t x y) (records t) i standing (s .standing)
+pub record Splitting (t : List ℕ) (p : Pair) (i : ℕ) (crossing standing : List ℕ) (s : Split) : Type 0 where
+  pub crosses : Listing t (crossesAt t (p .x .0) (p .y .0)) (records t) i crossing (s .crossing)
+  pub stands : Listing t (standsAt t (p .x .0) (p .y .0)) (records t) i standing (s .standing)
 
 module _ {t : List ℕ} {p : ℕ → Bool} {m : ℕ} {list : List ℕ} where
   pub listing-begins : m ≡ records t → RoomFor t list → Listing t p m 0 list 0
@@ -69,8 +67,13 @@ module _ {t : List ℕ} {p : ℕ → Bool} {m : ℕ} {list : List ℕ} where
     pub listing-passes : p i ≡ false → i < m → Listing t p m (i + 1) list k
     listing-passes e l = record { all = w .all; room = w .room; so-far = collect-passes (w .so-far) l e }
 
-    pub listing-goes : {b : Bool} {list′ : List ℕ} {k′ : ℕ} → b ≡ p i → Pushed b i list k list′ k′ → length list′ ≡ length list → i < m → Listing t p m (i + 1) list′ k′
-    listing-goes e q s l = record { all = w .all; room = record { few = w .room .few; long = omega (arith, w .room .long) }; so-far = collect-goes (w .so-far) l e q }
+    pub listing-goes : {b : Bool} {list′ : List ℕ} {k′ : ℕ} → b ≡ p i → Pushed b i list k list′ k′ → length list′ ≡ length list → i < m
+        → Listing t p m (i + 1) list′ k′
+    listing-goes e q s l = record {
+      all = w .all;
+      room = record { few = w .room .few; long = omega (arith, w .room .long) };
+      so-far = collect-goes (w .so-far) l e q;
+    }
 
     pub listing-ends : m ≤ i → Collected p (records t) list k
     listing-ends l = rw (w .all) at (collect-ends (w .so-far) l (omega (arith, w .room .few, w .room .long)))
@@ -122,6 +125,6 @@ module _ (t : List ℕ) (x y i : ℕ) where
   crossing-used : crosses (lookup t) x y (ref i) ≡ true → i < records t → isFree t i ≡ false
   crossing-used e l = crossing-not (isFree t i) refl e l
 
-pub in-use : (t : List ℕ) (x y : ℕ) {list : List ℕ} {k : ℕ} → CrossingListed t x y list k → InUse t list k
-in-use t x y {list} c =
-    record { inside = inside-of c; used = λ j h. crossing-used t x y (getD list j 0) (entry-passes c j h) (entry-below c j h) }
+pub in-use : (t : List ℕ) (p : Pair) {list : List ℕ} {k : ℕ} → CrossingListed t p list k → InUse t list k
+in-use t p {list} c =
+    record { inside = inside-of c; used = λ j h. crossing-used t (p .x .0) (p .y .0) (getD list j 0) (entry-passes c j h) (entry-below c j h) }

@@ -1,13 +1,13 @@
-// The records of this swap, collected once: those of x, split into crossing and standing ones, those of y, and the free ones.
+// The records of this swap, collected once: those of x, split into crossing and standing ones, and the free ones.
 ghost use mathlib.Core.Path.{_≡_};
 ghost use Prim.Native.Nat.{_+_, _<_};
 ghost use lib.ListN.{length, getD};
 ghost use Rattle.lists.specs.Collect.{Pushed};
 ghost use Rattle.diagrams.specs.Layout.{records};
-ghost use Rattle.swap_records.specs.Listed.{RoomFor, OfListed, FreeListed, Splitting, Splits};
+ghost use Rattle.swap_records.specs.Listed.{RoomFor, FreeListed, Splitting, Splits};
+use super::Pair;
 use diagrams::MOST_RECORDS;
 use diagrams::RecordNumber;
-use diagrams::Variable;
 
 // Entry k of a list of records.
 pub fn entry(list: &[u16], k: usize) -> RecordNumber
@@ -28,21 +28,6 @@ fn push_if(list: &mut [u16], k: usize, b: bool, i: RecordNumber) -> usize
 {
     list[k] = i.0 as u16;
     k + diagrams::one(b)
-}
-
-pub fn collect_of(table: &[u8], v: Variable, list: &mut [u16]) -> usize
-    requires { ⌜ RoomFor (now table) (now list) ⌝ }
-    ensures { λ k. ⌜ OfListed (now (table .entry)) (v .0) (now (list .exit)) k ⌝ }
-{
-    let m = diagrams::count_records(table);
-    let mut k: usize = 0;
-    let mut i = 0;
-    while i < m {
-        let number = RecordNumber(i);
-        k = push_if(list, k, super::is_record_of(table, v, number), number);
-        i += 1;
-    }
-    k
 }
 
 pub fn collect_free(table: &[u8], list: &mut [u16]) -> usize
@@ -69,20 +54,19 @@ pub struct Split {
 // Record i goes to the list that it belongs to, if it is a record of x.
 fn split_record(
     table: &[u8],
-    x: Variable,
-    y: Variable,
+    pair: Pair,
     i: RecordNumber,
     crossing: &mut [u16],
     standing: &mut [u16],
     at: Split,
 ) -> Split
-    requires { ⌜ Splitting (now table) (x .0) (y .0) (i .0) (now crossing) (now standing) at × (i .0 < records (now table)) ⌝ }
-    ensures { λ s. ⌜ Splitting (now (table .entry)) (x .0) (y .0) (i .0 + 1) (now (crossing .exit)) (now (standing .exit)) s ⌝ }
+    requires { ⌜ Splitting (now table) pair (i .0) (now crossing) (now standing) at × (i .0 < records (now table)) ⌝ }
+    ensures { λ s. ⌜ Splitting (now (table .entry)) pair (i .0 + 1) (now (crossing .exit)) (now (standing .exit)) s ⌝ }
 {
-    if !super::is_record_of(table, x, i) {
+    if !super::is_record_of(table, pair.x, i) {
         return at;
     }
-    let crosses = super::is_crossing(table, x, y, i);
+    let crosses = super::is_crossing(table, pair, i);
     let c = push_if(crossing, at.crossing, crosses, i);
     let s = push_if(standing, at.standing, !crosses, i);
     Split {
@@ -91,15 +75,9 @@ fn split_record(
     }
 }
 
-pub fn collect_x(
-    table: &[u8],
-    x: Variable,
-    y: Variable,
-    crossing: &mut [u16],
-    standing: &mut [u16],
-) -> Split
+pub fn collect_x(table: &[u8], pair: Pair, crossing: &mut [u16], standing: &mut [u16]) -> Split
     requires { ⌜ RoomFor (now table) (now crossing) × RoomFor (now table) (now standing) ⌝ }
-    ensures { λ s. ⌜ Splits (now (table .entry)) (x .0) (y .0) (now (crossing .exit)) (now (standing .exit)) s ⌝ }
+    ensures { λ s. ⌜ Splits (now (table .entry)) pair (now (crossing .exit)) (now (standing .exit)) s ⌝ }
 {
     let m = diagrams::count_records(table);
     let mut at = Split {
@@ -108,7 +86,7 @@ pub fn collect_x(
     };
     let mut i = 0;
     while i < m {
-        at = split_record(table, x, y, RecordNumber(i), crossing, standing, at);
+        at = split_record(table, pair, RecordNumber(i), crossing, standing, at);
         i += 1;
     }
     at

@@ -14,6 +14,13 @@ use diagrams::Reference;
 use diagrams::Variable;
 
 pub mod collect;
+pub mod pairs;
+
+// The variables of the two levels that change places: x is the upper one, y the lower.
+pub struct Pair {
+    pub x: Variable,
+    pub y: Variable,
+}
 
 // Is record i a used record of v?
 pub fn is_record_of(table: &[u8], v: Variable, i: RecordNumber) -> bool
@@ -34,13 +41,15 @@ fn names_record_of(table: &[u8], v: Variable, x: Reference) -> bool
     false
 }
 
-pub fn is_crossing(table: &[u8], x: Variable, y: Variable, i: RecordNumber) -> bool
+fn is_crossing(table: &[u8], pair: Pair, i: RecordNumber) -> bool
     requires { ⌜ InTable (now table) (i .0) ⌝ }
-    ensures { λ b. ⌜ b ≡ crosses (lookup (now (table .entry))) (x .0) (y .0) (ref (i .0)) ⌝ }
+    ensures { λ b. ⌜ b ≡ crosses (lookup (now (table .entry))) (pair .x .0) (pair .y .0) (ref (i .0)) ⌝ }
 {
+    let y = pair.y;
     let low = i.low(table);
     let high = i.high(table);
-    is_record_of(table, x, i) & (names_record_of(table, y, low) | names_record_of(table, y, high))
+    is_record_of(table, pair.x, i)
+        & (names_record_of(table, y, low) | names_record_of(table, y, high))
 }
 
 // The child of record i, on the low side or the high one.

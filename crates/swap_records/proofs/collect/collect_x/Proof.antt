@@ -9,8 +9,8 @@ pub collect-x-spec : {M : Type 1} → statement M
 collect-x-spec =
     tie.close
     (tie.spec
-    (λ table x y crossing₀ standing₀ m at₀ i₀ crossing standing at i. Splitting table (x .0) (y .0) i crossing standing at)
-    (λ table x y crossing₀ standing₀ m at₀ i₀ crossing standing at i. m - i)
+    (λ table pair crossing₀ standing₀ m at₀ i₀ crossing standing at i. Splitting table pair i crossing standing at)
+    (λ table pair crossing₀ standing₀ m at₀ i₀ crossing standing at i. m - i)
     (λ c κs. search splitting)
     (λ c. search splitting)
     (λ c κs. search splitting)

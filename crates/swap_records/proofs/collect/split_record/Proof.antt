@@ -2,8 +2,6 @@ use borrow.Author.Needs.{needs}
 use Rattle.swap_records.proofs.Laws.{splitting}
 use Rattle.swap_records.proofs.collect.split_record.Statement.{statement}
 use Rattle.swap_records.proofs.collect.split_record.Tie as tie
-use Rattle.swap_records.proofs.collect.split_record.Reads as reads
-use Rattle.swap_records.proofs.collect.split_record.Lts as lts
 
 pub split-record-spec : {M : Type 1} → statement M
 split-record-spec =
