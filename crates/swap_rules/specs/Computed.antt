@@ -8,9 +8,14 @@ use mathlib.Core.Path.{_≡_, refl, ap, ap₂, sym, _∙_, subst}
 use lib.Dec.{eqb}
 use lib.ListN.{length, getD}
 use borrow.Author.Tests.{eqb-true, eq-eqb, ne-eqb, ltb-true, lt-ltb, not-true}
-use Rattle.lists.specs.First.{first, any, first-holds}
-use Rattle.lists.specs.Says.{Says, Some, says-any, says-eqb, says-ltb, says-not, says-and, refutes, denies, decided}
-use Rattle.lists.specs.Keep.{keep, which, Mem, Apart, says-itself, first-below, at-mem, mem-at, apart-at, keep-mem, mem-keep, once-mem, mem-once, once-apart, each-mem, mem-each, which-mem, mem-which, which-apart, place-at}
+use Rattle.lists.specs.First.{first, any, first-holds, first-below}
+use Rattle.lists.specs.Says.{Says, Some, says-any, says-eqb, says-ltb, says-not, says-and, refutes, denies, decided, says-itself}
+use Rattle.lists.specs.Keep.{keep, keep-mem, mem-keep}
+use Rattle.lists.specs.Places.{place-at}
+use Rattle.lists.specs.Which.{which, which-mem, mem-which, which-apart}
+use Rattle.lists.specs.Each.{each-mem, mem-each}
+use Rattle.lists.specs.Once.{once-mem, mem-once, once-apart}
+use Rattle.lists.specs.Mem.{Mem, Apart, at-mem, mem-at, apart-at}
 use Rattle.lists.specs.Truth.{by, clash, and-left, and-right, and-both, or-cases, true-not}
 use Rattle.diagrams.specs.Node.{Node, free, node, pick, ref, look}
 use Rattle.diagrams.specs.Edition.{Edition, invert, bare, oneRecord, turned, seen, Rooted, Upright, turned-twice, invert-not, bare-opposite, seen-opposite, opposite-one, bare-upright, invert-twice, invert-bare, turned-back, seen-invert, seen-upright, bare-invert, turned-free, pick-invert, bare-one, as-inverted}

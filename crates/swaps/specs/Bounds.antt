@@ -7,7 +7,10 @@ use native.Mathlib.Omega.{arith}
 use lib.ListN.{length}
 use Rattle.lists.specs.Below.{Below}
 use Rattle.lists.specs.Count.{count-small}
-use Rattle.lists.specs.Keep.{keep, which, keep-short, once-short, each-length, which-length}
+use Rattle.lists.specs.Keep.{keep, keep-short}
+use Rattle.lists.specs.Which.{which, which-length}
+use Rattle.lists.specs.Each.{each-length}
+use Rattle.lists.specs.Once.{once-short}
 use Rattle.diagrams.specs.Layout.{recordSize, mostRecords, records}
 use Rattle.diagrams.specs.Node.{Node, at}
 use Rattle.diagrams.specs.Decode.{decode}
@@ -20,8 +23,8 @@ use Rattle.checks.specs.declared.Verdict.the-variants as verdict
 use Rattle.diagrams.specs.Edition.{plain}
 use Rattle.swap_rules.specs.Record.{isFreeNode, same}
 use Rattle.swap_rules.specs.Swap.{xAt, yAt, bothAsked, crossing, isNew, wanted, news, needed, freeCount}
-use Rattle.swaps.specs.Outcome.{neededIn, freeIn, fitsIn, roomOf, noLevel, swapStages, swapAfter, swapJudged, swapOf, numbers}
-use Rattle.swaps.specs.declared.Room.the-variants as room
+use Rattle.swaps.specs.Outcome.{neededIn, freeIn, fitsIn, lack, wayOf, noLevel, swapStages, swapAfter, swapJudged, swapOf, numbers}
+use Rattle.swaps.specs.declared.Way.the-variants as way
 
 module _ (T : ℕ → Node) (N x y : ℕ) where
   -- each crossing record asks for two
@@ -46,18 +49,19 @@ room-small t x y m big few = (omega (arith, needed-small (at (decode t)) (record
 -- ---- every number of an answer is below m
 
 module _ (t r o : List ℕ) (k m : ℕ) (big : 2 * mostRecords < m) (level : k < m) where
-  room-below : (b : Bool) (n f : ℕ) → (n < m) × (f < m) → Below m (numbers (swapAfter t r o k (cond b room.Made (room.NoRoom n f)) .answer))
-  room-below true n f w = (omega arith, tt)
-  room-below false n f w = (omega arith, (level, (w .0, (w .1, tt))))
+  way-below : (b : Bool) (n f : ℕ) → (n < m) × (f < m) → Below m (numbers (swapAfter t r o k (cond b way.Clear (way.NoRoom (lack k n f))) .answer))
+  way-below true n f w = (omega arith, tt)
+  way-below false n f w = (omega arith, (level, (w .0, (w .1, tt))))
 
   sizes-passed : AllPass (swapStages t r o k) → Sizes t r o
   unfolding swapStages checkStages
   sizes-passed (also h rest) = sizes-if t r o (passed-only 0 h)
 
   judged-below : (v : Verdict) → verdictOf (swapStages t r o k) ≡ v → Below m (numbers (swapJudged t r o k v .answer))
-  unfolding roomOf swapStages Bounded
+  unfolding wayOf swapStages Bounded
   judged-below verdict.Clear e =
-      room-below (fitsIn t (xAt o k) (yAt o k)) _ _ (room-small t (xAt o k) (yAt o k) m big (sizes-passed (clear-only (swapStages t r o k) e) .few-records))
+      let few = sizes-passed (clear-only (swapStages t r o k) e) .few-records in
+      way-below (fitsIn t (xAt o k) (yAt o k)) _ _ (room-small t (xAt o k) (yAt o k) m big few)
   judged-below (verdict.Refused f) e =
       let w = refusal-small t r o (stageAt 12 k (noLevel o k) ∷ []) m (f .number) (f .place) (omega arith) (omega arith, omega arith, tt) e in
       (w .0, (w .1, tt))

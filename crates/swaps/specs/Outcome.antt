@@ -1,12 +1,13 @@
--- Swap: "levels k and k+1: made, no room (level k, needed, free), or 1, 2, 4 to 9, 12". The whole outcome, over the bytes.
+-- Swap levels k and k + 1: made, no room (level, needed, free), or refused with 1, 2, 4 to 9 or 12. The whole outcome, over the bytes.
 use Prim.Native.Nat.{ℕ, _-_}
 use mathlib.Core.Bool.{Bool, true, false, cond}
 use mathlib.Core.List.{List, [], _∷_, _++_}
-use mathlib.Core.Path.{_≡_, refl}
+use mathlib.Core.Path.{_≡_, refl, sym}
 use native.Mathlib.Omega.{arith}
 use lib.Dec.{leb}
 use lib.ListN.{length, take}
 use Rattle.lists.specs.Apart.{apart}
+use Rattle.lists.specs.Says.{true-false}
 use Rattle.orders.specs.Exchange.{exchange}
 use Rattle.diagrams.specs.Layout.{records}
 use Rattle.diagrams.specs.Node.{at}
@@ -18,8 +19,9 @@ use Rattle.checks.specs.declared.Verdict.{Verdict}
 use Rattle.checks.specs.declared.Verdict.the-variants as verdict
 use Rattle.diagrams.specs.Edition.{plain}
 use Rattle.swap_rules.specs.Swap.{xAt, yAt, needed, freeCount, fits, dying, swapped}
-use Rattle.swaps.specs.declared.Room.{Room}
-use Rattle.swaps.specs.declared.Room.the-variants as room
+use Rattle.swaps.specs.declared.Lack.{Lack}
+use Rattle.swaps.specs.declared.Way.{Way}
+use Rattle.swaps.specs.declared.Way.the-variants as way
 use Rattle.swaps.specs.declared.SwapAnswer.{SwapAnswer}
 use Rattle.swaps.specs.declared.SwapAnswer.the-variants.{Made, NoRoom, Refused}
 
@@ -41,28 +43,31 @@ fitsIn t x y = fits plain (at (decode t)) (records t) x y
 abbrev pub dyingIn : List ℕ → List ℕ → ℕ → ℕ → ℕ
 dyingIn t r x y = dying plain (at (decode t)) (records t) x y (rootsOf r)
 
--- ---- of a table that is accepted
+-- ---- what stands in the way of a swap of levels k and k + 1 of the order o: nothing, or that there is no room
 
-unfoldable pub roomOf : List ℕ → ℕ → ℕ → Room
-roomOf t x y = cond (fitsIn t x y) room.Made (room.NoRoom (neededIn t x y) (freeIn t))
+abbrev pub lack : ℕ → ℕ → ℕ → Lack
+lack level needed free = record { level = level; needed = needed; free = free }
 
--- the table afterwards, where there is room
+-- the one answer that Swap, a slice and its judgement cite: no room where needed is above free, with the level and these two numbers
+unfoldable pub wayOf : List ℕ → List ℕ → ℕ → Way
+wayOf t o k = cond (fitsIn t (xAt o k) (yAt o k)) way.Clear (way.NoRoom (lack k (neededIn t (xAt o k) (yAt o k)) (freeIn t)))
+
+abbrev pub isClear : Way → Bool
+isClear way.Clear = true
+isClear (way.NoRoom l) = false
+
+-- the table afterwards, where nothing stands in the way
 unfoldable pub tableAfter : List ℕ → List ℕ → ℕ → ℕ → List ℕ
 tableAfter t r x y = encode (swapped plain (decode t) x y (rootsOf r))
 
--- the image holds the table afterwards
-pub record Prepared (t r : List ℕ) (x y : ℕ) (a : Room) (image : List ℕ) : Type 0 where
-  pub answer : a ≡ roomOf t x y
-  pub table : fitsIn t x y ≡ true → take (length t) image ≡ tableAfter t r x y
-
 -- a swap of the table alone
-pub record RoomOutcome (t r : List ℕ) (x y : ℕ) (a : Room) (t′ : List ℕ) : Type 0 where
-  pub answer : a ≡ roomOf t x y
-  pub table : t′ ≡ cond (fitsIn t x y) (tableAfter t r x y) t
+pub record TableSwapped (t r o : List ℕ) (k : ℕ) (w : Way) (t′ : List ℕ) : Type 0 where
+  pub answer : w ≡ wayOf t o k
+  pub table : t′ ≡ cond (isClear w) (tableAfter t r (xAt o k) (yAt o k)) t
 
 -- ---- the entry
 
--- 12: "no such level: the pair asked for isn't in 0..n-2"; the place is the level
+-- 12: there is no level k with a level below it; the place is the level
 abbrev pub noLevel : List ℕ → ℕ → Bool
 noLevel o k = leb (length o - 1) k
 
@@ -75,13 +80,13 @@ pub record Swapped : Type 0 where
   pub table : List ℕ
   pub order : List ℕ
 
--- "The two order bytes are exchanged."; without room nothing is
-abbrev pub swapAfter : List ℕ → List ℕ → List ℕ → ℕ → Room → Swapped
-swapAfter t r o k room.Made = record { answer = Made; table = tableAfter t r (xAt o k) (yAt o k); order = exchange o k }
-swapAfter t r o k (room.NoRoom needed free) = record { answer = NoRoom k needed free; table = t; order = o }
+-- the two order bytes are exchanged with the table; without room nothing changes
+abbrev pub swapAfter : List ℕ → List ℕ → List ℕ → ℕ → Way → Swapped
+swapAfter t r o k way.Clear = record { answer = Made; table = tableAfter t r (xAt o k) (yAt o k); order = exchange o k }
+swapAfter t r o k (way.NoRoom l) = record { answer = NoRoom l; table = t; order = o }
 
 abbrev pub swapJudged : List ℕ → List ℕ → List ℕ → ℕ → Verdict → Swapped
-swapJudged t r o k verdict.Clear = swapAfter t r o k (roomOf t (xAt o k) (yAt o k))
+swapJudged t r o k verdict.Clear = swapAfter t r o k (wayOf t o k)
 swapJudged t r o k (verdict.Refused w) = record { answer = Refused w; table = t; order = o }
 
 unfoldable pub swapOf : List ℕ → List ℕ → List ℕ → ℕ → Swapped
@@ -91,32 +96,40 @@ swapOf t r o k = swapJudged t r o k (verdictOf (swapStages t r o k))
 abbrev pub SwapOutcome : List ℕ → List ℕ → List ℕ → ℕ → SwapAnswer → List ℕ → List ℕ → Type 0
 SwapOutcome t r o k a t′ o′ = record { answer = a; table = t′; order = o′ } ≡ swapOf t r o k
 
--- the paper's number and values of each answer; 0 stands for made and 100 for no room
+-- the numbers of each answer: 0 stands for made and 100 for no room
 abbrev pub numbers : SwapAnswer → List ℕ
 numbers Made = 0 ∷ []
-numbers (NoRoom level needed free) = 100 ∷ level ∷ needed ∷ free ∷ []
+numbers (NoRoom l) = 100 ∷ l .level ∷ l .needed ∷ l .free ∷ []
 numbers (Refused w) = w .number ∷ w .place ∷ []
 
--- ---- what an answer says of the room
+-- ---- what the answer says of the room
 
-module _ (t : List ℕ) (x y : ℕ) where
-  abbrev lacking : Room
-  lacking = room.NoRoom (neededIn t x y) (freeIn t)
+module _ (t o : List ℕ) (k : ℕ) where
+  abbrev fit : Bool
+  fit = fitsIn t (xAt o k) (yAt o k)
 
-  pub room-fits : room.Made ≡ roomOf t x y → fitsIn t x y ≡ true
-  unfolding roomOf
-  room-fits e = go (fitsIn t x y) e
+  abbrev lacking : Lack
+  lacking = lack k (neededIn t (xAt o k) (yAt o k)) (freeIn t)
+
+  pub way-fits : isClear (wayOf t o k) ≡ fit
+  unfolding wayOf
+  way-fits = go fit
     where
-      go : (b : Bool) → room.Made ≡ cond b room.Made lacking → b ≡ true
-      go true q = refl
-      go false q = apart (cc)
+      go : (b : Bool) → isClear (cond b way.Clear (way.NoRoom lacking)) ≡ b
+      go true = refl
+      go false = refl
 
-  pub room-lacks : (n f : ℕ) → room.NoRoom n f ≡ roomOf t x y
-      → (fitsIn t x y ≡ false) × (n ≡ neededIn t x y) × (f ≡ freeIn t)
-  unfolding roomOf
-  room-lacks n f e = go (fitsIn t x y) e
+  pub way-clear : isClear (wayOf t o k) ≡ true → wayOf t o k ≡ way.Clear
+  way-clear e = go (wayOf t o k) e
     where
-      go : (b : Bool) → room.NoRoom n f ≡ cond b room.Made lacking
-          → (b ≡ false) × (n ≡ neededIn t x y) × (f ≡ freeIn t)
+      go : (w : Way) → isClear w ≡ true → w ≡ way.Clear
+      go way.Clear q = refl
+      go (way.NoRoom l) q = true-false (sym q)
+
+  pub way-lacks : (l : Lack) → wayOf t o k ≡ way.NoRoom l → (fit ≡ false) × (l ≡ lacking)
+  unfolding wayOf
+  way-lacks l e = go fit e
+    where
+      go : (b : Bool) → cond b way.Clear (way.NoRoom lacking) ≡ way.NoRoom l → (b ≡ false) × (l ≡ lacking)
       go true q = apart (cc)
-      go false q = (refl, (cc), (cc))
+      go false q = (refl, (cc))

@@ -1,11 +1,14 @@
 // Swap two neighbouring levels of a stored diagram. The reckoning reads the table, and the table afterwards is put into an image;
 // the lent buffers are written only when everything is known.
 ghost use mathlib.Core.Path.{_≡_};
-ghost use Prim.Native.Nat.{_*_, _≤_, _<_};
+ghost use Prim.Native.Nat.{_+_, _*_, _%_, _≤_, _<_};
 ghost use lib.ListN.{length, take};
 ghost use Rattle.diagrams.specs.Layout.{mostRecords, recordSize};
 ghost use Rattle.check_records.specs.Meaning.{Sized};
-ghost use Rattle.swaps.specs.Outcome.{roomOf, Prepared, RoomOutcome, SwapOutcome};
+ghost use Rattle.orders.specs.Permutation.{ceiling};
+ghost use Rattle.checks.specs.Stages.{verdictOf};
+ghost use Rattle.swaps.specs.Outcome.{wayOf, TableSwapped, swapStages, SwapOutcome};
+ghost use Rattle.swaps.specs.Work.{roomOf, wayFrom, Prepared, RoomOutcome, Asking, Swappable, SwapDone};
 use checks::Refusal;
 use checks::Verdict;
 use diagrams::MOST_RECORDS;
@@ -17,20 +20,28 @@ use swap_reckoning::news;
 use swap_records::collect;
 use swap_result::Numbers;
 
-// Was there room for a swap?
-pub enum Room {
-    Made,
-    NoRoom { needed: usize, free: usize },
+// Is there room for a swap of two variables?
+enum Room {
+    Enough,
+    Lacking { needed: usize, free: usize },
 }
 
-// What Swap answers.
+// What a swap without room tells: its upper level, the new records that it needs, and the free ones that there are.
+pub struct Lack {
+    pub level: usize,
+    pub needed: usize,
+    pub free: usize,
+}
+
+// What stands in the way of a swap.
+pub enum Way {
+    Clear,
+    NoRoom(Lack),
+}
+
 pub enum SwapAnswer {
     Made,
-    NoRoom {
-        level: usize,
-        needed: usize,
-        free: usize,
-    },
+    NoRoom(Lack),
     Refused(Refusal),
 }
 
@@ -61,7 +72,7 @@ fn prepare(table: &[u8], roots: &[u8], x: Variable, y: Variable, image: &mut [u8
         &mut news,
     );
     if free < needed {
-        return Room::NoRoom { needed, free };
+        return Room::Lacking { needed, free };
     }
     let mut ys = collect::no_entries();
     let y_count = collect::collect_of(table, y, &mut ys);
@@ -86,16 +97,7 @@ fn prepare(table: &[u8], roots: &[u8], x: Variable, y: Variable, image: &mut [u8
         q,
         image,
     );
-    Room::Made
-}
-
-// Is there room for the swap of x and y in an accepted table? Nothing is written.
-pub fn has_room(table: &[u8], roots: &[u8], x: Variable, y: Variable) -> Room
-    requires { ⌜ Sized (now table) (now roots) × ((x .0 < 256) × (y .0 < 256)) ⌝ }
-    ensures { λ a. ⌜ a ≡ roomOf (now (table .entry)) (x .0) (y .0) ⌝ }
-{
-    let mut image = no_image();
-    prepare(table, roots, x, y, &mut image)
+    Room::Enough
 }
 
 // The one writer of a lent table: it knows nothing of diagrams.
@@ -111,17 +113,94 @@ fn publish(table: &mut [u8], image: &[u8])
     }
 }
 
-// The swap of x and y in an accepted table.
-pub fn swap_table(table: &mut [u8], roots: &[u8], x: Variable, y: Variable) -> Room
+// The swap of x and y, where there is room.
+fn swap_variables(table: &mut [u8], roots: &[u8], x: Variable, y: Variable) -> Room
     requires { ⌜ Sized (now table) (now roots) × ((x .0 < 256) × (y .0 < 256)) ⌝ }
     ensures { λ a. ⌜ RoomOutcome (now (table .entry)) (now (roots .entry)) (x .0) (y .0) a (now (table .exit)) ⌝ }
 {
     let mut image = no_image();
     match prepare(table, roots, x, y, &mut image) {
-        Room::NoRoom { needed, free } => Room::NoRoom { needed, free },
-        Room::Made => {
+        Room::Lacking { needed, free } => Room::Lacking { needed, free },
+        Room::Enough => {
             publish(table, &image);
-            Room::Made
+            Room::Enough
+        }
+    }
+}
+
+// Is there room for the swap of x and y?
+fn room_for(table: &[u8], x: Variable, y: Variable) -> Room
+    requires { ⌜ (length (now table) ≤ recordSize * mostRecords) × ((length (now table) % recordSize ≡ 0) × ((x .0 < 256) × (y .0 < 256))) ⌝ }
+    ensures { λ a. ⌜ a ≡ roomOf (now (table .entry)) (x .0) (y .0) ⌝ }
+{
+    let mut image = no_image();
+    prepare(table, b"", x, y, &mut image)
+}
+
+// ---- two levels of an order
+
+fn way_of(level: usize, room: Room) -> Way
+    ensures { λ w. ⌜ w ≡ wayFrom level room ⌝ }
+{
+    match room {
+        Room::Lacking { needed, free } => Way::NoRoom(Lack {
+            level,
+            needed,
+            free,
+        }),
+        Room::Enough => Way::Clear,
+    }
+}
+
+// What stands in the way of the swap of levels level and level + 1? Nothing is written.
+pub fn ask(table: &[u8], order: Order, level: usize) -> Way
+    requires { ⌜ Asking (now table) level ⌝ }
+    ensures { λ w. ⌜ w ≡ wayOf (now (table .entry)) (order .variables) level ⌝ }
+{
+    let x = order.variable_at(level);
+    let y = order.variable_at(level + 1);
+    way_of(level, room_for(table, x, y))
+}
+
+// The swap of levels level and level + 1 of the table, where nothing stands in its way. The order is the caller's to exchange.
+pub fn swap_table(table: &mut [u8], roots: &[u8], order: Order, level: usize) -> Way
+    requires { ⌜ Sized (now table) (now roots) × (level + 1 < ceiling) ⌝ }
+    ensures { λ w. ⌜ TableSwapped (now (table .entry)) (now (roots .entry)) (order .variables) level w (now (table .exit)) ⌝ }
+{
+    let x = order.variable_at(level);
+    let y = order.variable_at(level + 1);
+    way_of(level, swap_variables(table, roots, x, y))
+}
+
+// ---- the entry
+
+fn verdict_of_swap(table: &[u8], roots: &[u8], order: &[u8], level: usize) -> Verdict
+    ensures { λ v. ⌜ v ≡ verdictOf (swapStages (now (table .entry)) (now (roots .entry)) (now (order .entry)) level) ⌝ }
+{
+    let verdict = checks::verdict_of_all(table, roots, order);
+    if let Verdict::Refused(refusal) = verdict {
+        return Verdict::Refused(refusal);
+    }
+    if order.len() - 1 <= level {
+        return Verdict::Refused(Refusal {
+            number: 12,
+            place: level,
+        });
+    }
+    Verdict::Clear
+}
+
+// The swap of a table that is accepted, at two levels of its order.
+fn swap_accepted(table: &mut [u8], roots: &[u8], order: &mut [u8], level: usize) -> SwapAnswer
+    requires { ⌜ Swappable (now table) (now roots) (now order) level ⌝ }
+    ensures { λ a. ⌜ SwapDone (now (table .entry)) (now (roots .entry)) (now (order .entry)) level a (now (table .exit)) (now (order .exit)) ⌝ }
+{
+    let before = Order::load(order);
+    match swap_table(table, roots, before, level) {
+        Way::NoRoom(lack) => SwapAnswer::NoRoom(lack),
+        Way::Clear => {
+            before.exchanged(level).store(order);
+            SwapAnswer::Made
         }
     }
 }
@@ -129,29 +208,8 @@ pub fn swap_table(table: &mut [u8], roots: &[u8], x: Variable, y: Variable) -> R
 pub fn swap(table: &mut [u8], roots: &[u8], order: &mut [u8], level: usize) -> SwapAnswer
     ensures { λ a. ⌜ SwapOutcome (now (table .entry)) (now (roots .entry)) (now (order .entry)) level a (now (table .exit)) (now (order .exit)) ⌝ }
 {
-    let verdict = checks::verdict_of_all(table, roots, order);
-    if let Verdict::Refused(refusal) = verdict {
-        return SwapAnswer::Refused(refusal);
-    }
-    if order.len() - 1 <= level {
-        return SwapAnswer::Refused(Refusal {
-            number: 12,
-            place: level,
-        });
-    }
-    let before = Order::load(order);
-    let x = before.variable_at(level);
-    let y = before.variable_at(level + 1);
-    match swap_table(table, roots, x, y) {
-        Room::NoRoom { needed, free } => SwapAnswer::NoRoom {
-            level,
-            needed,
-            free,
-        },
-        Room::Made => {
-            let after = before.exchanged(level);
-            after.store(order);
-            SwapAnswer::Made
-        }
+    match verdict_of_swap(table, roots, order, level) {
+        Verdict::Refused(refusal) => SwapAnswer::Refused(refusal),
+        Verdict::Clear => swap_accepted(table, roots, order, level),
     }
 }

@@ -1,6 +1,5 @@
-use native.Mathlib.Omega.{arith}
 use borrow.Author.Needs.{needs}
-use Rattle.swaps.proofs.Entry.{room-none, room-made}
+use Rattle.swaps.proofs.Laws.{table-swapped}
 use Rattle.swaps.proofs.swap_table.Statement.{statement}
 use Rattle.swaps.proofs.swap_table.Tie as tie
 
@@ -10,12 +9,8 @@ swap-table-spec =
     (tie.spec
     (λ c κs. search needs)
     (λ c. search needs)
-    (λ c κs. ((c .before .before .before .before .before .pre .0, omega arith), c .before .before .before .before .before .pre .1))
-    (λ c. search needs)
-    (λ c. search needs)
-    (λ c. search needs)
+    (λ c κs. search needs)
+    (λ c κs. search needs)
     (λ c κs. search needs)
     (λ c. search needs)
-    (λ c. room-none _ _ _ _ _ _ (c .before .before .before .before .prepare .ensures) (c .before .needed .given .1))
-    (λ c. search needs)
-    (λ c. room-made _ _ _ _ (c .before .before .before .before .before .before .before .before .prepare .ensures) (c .before .before .before .before .before .enum-told .given .1) (c .before .before .publish .ensures)))
+    (λ c. search table-swapped))

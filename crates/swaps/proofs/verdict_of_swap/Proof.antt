@@ -1,0 +1,16 @@
+use borrow.Author.Needs.{needs}
+use Rattle.swaps.proofs.Laws.{check-refuses, some-level, no-level, two-levels}
+use Rattle.swaps.proofs.verdict_of_swap.Statement.{statement}
+use Rattle.swaps.proofs.verdict_of_swap.Tie as tie
+
+pub verdict-of-swap-spec : {M : Type 1} → statement M
+verdict-of-swap-spec =
+    tie.close
+    (tie.spec
+    (λ c κs. search needs)
+    (λ c. search needs)
+    (λ c. search check-refuses)
+    (λ c. search needs)
+    (λ c. search (some-level, needs))
+    (λ c. search no-level)
+    (λ c. search two-levels))
