@@ -45,7 +45,7 @@ module _ (t : List ℕ) (x : ℕ) {b : Bool} (flag : b ≡ namesRecord t x) wher
     number-inside e = omega (arith, number-small)
 
   -- it doesn't: a constant, or past the table
-  not-inside : b ≡ false → 2 ≤ x → records t ≤ x - 2
+  pub not-inside : b ≡ false → 2 ≤ x → records t ≤ x - 2
   not-inside e h = either-side (x - 2) (records t) (λ l. absurd (refutes (names-says t x) (sym flag ∙ e) (h, l))) (λ l. l)
 
 pub ruleset naming = (from-two, number-inside, needs)

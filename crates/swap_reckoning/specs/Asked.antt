@@ -13,7 +13,10 @@ use lib.ListN.{length, getD, take}
 use lib.Seq.{take-suc, take-all}
 use Rattle.lists.specs.Begins.{Begins, begins-itself, begins-more, begins-on, placeOf, place-settled}
 use Rattle.lists.specs.First.{first, any}
-use Rattle.lists.specs.Keep.{keep, once, each, which, keep-append, once-more, each-append}
+use Rattle.lists.specs.Each.{each, each-append}
+use Rattle.lists.specs.Keep.{keep, keep-append}
+use Rattle.lists.specs.Once.{once, once-more}
+use Rattle.lists.specs.Which.{which}
 use Rattle.diagrams.specs.Edition.{plain}
 use Rattle.diagrams.specs.Layout.{records}
 use Rattle.diagrams.specs.Node.{Node, free, node, at, ref}

@@ -13,11 +13,11 @@ use Rattle.lists.specs.Collect.{Collected}
 use Rattle.lists.specs.Count.{count}
 use Rattle.lists.specs.Entries.{length-entries, entry-at, entry-below}
 use Rattle.lists.specs.First.{first, any, first-agrees}
-use Rattle.lists.specs.Keep.{which, which-length}
 use Rattle.lists.specs.Says.{either-side}
 use Rattle.lists.specs.Tabulate.{length-tabulate, getD-tabulate}
 use Rattle.lists.specs.Truth.{by}
-use Rattle.lists.specs.Which.{which-agrees, which-finds, which-misses}
+use Rattle.lists.specs.Ranks.{which-finds, which-misses}
+use Rattle.lists.specs.Which.{which, which-length, which-agrees}
 use Rattle.diagrams.specs.Layout.{records, variableAt, lowAt, highAt, isFree}
 use Rattle.diagrams.specs.Node.{Node, free, node, at, ref, look, two-more}
 use Rattle.diagrams.specs.Decode.{nodeAt, decode}
