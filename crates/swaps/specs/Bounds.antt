@@ -14,7 +14,7 @@ use Rattle.lists.specs.Once.{once-short}
 use Rattle.diagrams.specs.Layout.{recordSize, mostRecords, records}
 use Rattle.diagrams.specs.Node.{Node, at}
 use Rattle.diagrams.specs.Decode.{decode}
-use Rattle.check_records.specs.Meaning.{Sizes, sizes-if}
+use Rattle.check_sizes.specs.Sizes.{Sizes, sizes-if}
 use Rattle.checks.specs.Stages.{AllPass, also, stageAt, verdictOf, passed-only, clear-only}
 use Rattle.checks.specs.Check.{checkStages}
 use Rattle.checks.specs.Theorems.{Bounded, refusal-small}
