@@ -8,9 +8,9 @@ ghost use Rattle.swap_records.specs.Listed.{Inside};
 ghost use Rattle.swap_records.specs.Pairs.{PairRoom};
 ghost use Rattle.swap_reckoning.specs.Searching.{matchesAt, newAt, slotAt, Searchable, Noted};
 ghost use Rattle.swap_reckoning.specs.Reckoned.{TurnRoom, Asks, Answered, Sorted, Turn, Turns};
+use super::Counts;
 use diagrams::RecordNumber;
 use diagrams::Reference;
-use super::Counts;
 use swap_records::Pair;
 use swap_records::collect;
 use swap_records::pairs;
@@ -96,7 +96,10 @@ fn note(
 {
     let needed = counts.needed;
     if a.0 == b.0 {
-        return Settled { reference: a, needed };
+        return Settled {
+            reference: a,
+            needed,
+        };
     }
     let count = counts.standing;
     let k = find_standing(table, standing, count, a, b);

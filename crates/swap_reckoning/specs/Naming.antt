@@ -1,0 +1,130 @@
+-- What dies, found by counting names: the counts are those of the roots and of the records that stay as they are.
+use Prim.Native.Nat.{ℕ, zero, suc, _+_, _*_, _≤_, _<_}
+use mathlib.Core.Bool.{Bool, true, false, cond, not, _&&_, _||_}
+use mathlib.Core.List.{List}
+use mathlib.Core.Logic.{⊎-elim}
+use mathlib.Core.Path.{_≡_, refl, ap, sym, _∙_}
+use native.Mathlib.Omega.{arith}
+use borrow.Author.Tests.{eqb-true, eqb-false, ne-eqb}
+use lib.Dec.{eqb, ltb}
+use lib.ListN.{length, getD, set, length-set, List·getD-eq-default}
+use lib.Seq.{getD-set-same, getD-set-other}
+use Rattle.lists.specs.Collect.{Collected}
+use Rattle.lists.specs.Entries.{fold-entries, entries-few}
+use Rattle.lists.specs.First.{any, any-or, first-agrees}
+use Rattle.lists.specs.Fold.{fold, Steps, steps-begin, steps-go, steps-end}
+use Rattle.lists.specs.Says.{decided, either-side, says-eqb}
+use Rattle.lists.specs.Truth.{or-true, or-false, or-assoc}
+use Rattle.diagrams.specs.Edition.{plain}
+use Rattle.diagrams.specs.Layout.{mostRecords, records, rootCount, rootAt, variableAt, lowAt, highAt, isFree, isUsed}
+use Rattle.diagrams.specs.Node.{free, node, at, ref, two-more}
+use Rattle.diagrams.specs.Decode.{nodeAt, decode}
+use Rattle.diagrams.specs.Lookup.{lookup, at-decode, rootsOf, length-roots, root-is}
+use Rattle.diagrams.specs.Noting.{rootNames, noNotes, length-no-notes, no-note, roots-long, roots-has, records-long, records-has}
+use Rattle.check_sizes.specs.Sizes.{Sized}
+use Rattle.swap_rules.specs.Record.{lowOf, highOf, isFreeNode}
+use Rattle.swap_rules.specs.Swap.{crosses, names, dies}
+use Rattle.swap_records.specs.Kinds.{of-is, ofAt, crossesAt, standsAt}
+use Rattle.swap_records.specs.Listed.{StandingListed}
+use Rattle.swap_records.specs.declared.Pair.{Pair}
+
+-- ---- one name more: of a reference, of root k, of record i, of record i where it is no x record, and of entry k of a list
+
+unfoldable pub named : List ℕ → ℕ → List ℕ
+named l q = set l q (getD l q 0 + 1)
+
+unfoldable pub namedRoot : List ℕ → List ℕ → ℕ → List ℕ
+namedRoot r l k = named l (rootAt r k)
+
+unfoldable pub namedBy : List ℕ → List ℕ → ℕ → List ℕ
+namedBy t l i = named (named l (lowAt t i)) (highAt t i)
+
+unfoldable pub namedOther : List ℕ → ℕ → List ℕ → ℕ → List ℕ
+namedOther t x l i = cond (isUsed t i && not (ofAt t x i)) (namedBy t l i) l
+
+unfoldable pub namedEntry : List ℕ → List ℕ → List ℕ → ℕ → List ℕ
+namedEntry t list l k = namedBy t l (getD list k 0)
+
+-- record i has no name
+unfoldable pub unnamed : List ℕ → ℕ → Bool
+unnamed names i = eqb (getD names (i + 2) 0) 0
+
+-- ---- no count passes 16 bits
+
+-- there is room for n names more, of any reference
+pub record CountRoom (l : List ℕ) (n : ℕ) : Type 0 where
+  pub at : (q : ℕ) → getD l q 0 + n ≤ 65535
+
+pub room-less : {l : List ℕ} {m n : ℕ} → CountRoom l m → n ≤ m → CountRoom l n
+room-less c h = record { at = λ q. omega (arith, c .at q) }
+
+named-small : (l : List ℕ) (y q : ℕ) → getD (named l y) q 0 ≤ getD l q 0 + 1
+unfolding named
+named-small l y q = ⊎-elim here (λ d. omega (arith, getD-set-other l y q (getD l y 0 + 1) 0 (λ z. d (sym z)))) (decided (says-eqb y q))
+  where
+    past : length l ≤ q → length (set l q (getD l q 0 + 1)) ≤ q
+    past h = rw length-set h
+
+    here : y ≡ q → getD (set l y (getD l y 0 + 1)) q 0 ≤ getD l q 0 + 1
+    here e = rw e
+        (either-side q (length l)
+        (λ h. omega (arith, getD-set-same l q (getD l q 0 + 1) 0 h))
+        (λ h. omega (arith, List·getD-eq-default (set l q (getD l q 0 + 1)) 0 (past h))))
+
+pub room-named : {l : List ℕ} (y n : ℕ) → CountRoom l (n + 1) → CountRoom (named l y) n
+room-named {l} y n c = record { at = λ q. omega (arith, named-small l y q, c .at q) }
+
+room-both : (t l : List ℕ) (i n : ℕ) → CountRoom l (n + 2) → CountRoom (namedBy t l i) n
+unfolding namedBy
+room-both t l i n c = room-named (highAt t i) n (room-named (lowAt t i) (n + 1) (room-less c (omega arith)))
+
+-- each step counts at most two names
+pub record TwoNames (f : List ℕ → ℕ → List ℕ) : Type 0 where
+  pub room : (l : List ℕ) (k n : ℕ) → CountRoom l (n + 2) → CountRoom (f l k) n
+
+pub two-of-root : (r : List ℕ) → TwoNames (namedRoot r)
+unfolding namedRoot
+two-of-root r = record { room = λ l k n c. room-named (rootAt r k) n (room-less c (omega arith)) }
+
+pub two-of-other : (t : List ℕ) (x : ℕ) → TwoNames (namedOther t x)
+unfolding namedOther
+two-of-other t x = record { room = λ l k n c. go l k n c (isUsed t k && not (ofAt t x k)) }
+  where
+    go : (l : List ℕ) (k n : ℕ) → CountRoom l (n + 2) → (b : Bool) → CountRoom (cond b (namedBy t l k) l) n
+    go l k n c true = room-both t l k n c
+    go l k n c false = room-less c (omega arith)
+
+pub two-of-entry : (t list : List ℕ) → TwoNames (namedEntry t list)
+unfolding namedEntry
+two-of-entry t list = record { room = λ l k n c. room-both t l (getD list k 0) n c }
+
+module _ {f : List ℕ → ℕ → List ℕ} (two : TwoNames f) where
+  pub room-fold : (l : List ℕ) (k n : ℕ) → CountRoom l (n + 2 * k) → CountRoom (fold f l k) n
+  unfolding fold
+  room-fold l zero n c = room-less c (omega arith)
+  room-fold l (suc k) n c = two .room (fold f l k) k n (room-fold l k (n + 2) (room-less c (omega arith)))
+
+-- ---- a loop that counts, at k of m
+
+pub record Counting (f : List ℕ → ℕ → List ℕ) (start : List ℕ) (m k : ℕ) (l : List ℕ) : Type 0 where
+  pub two : TwoNames f
+  pub room : CountRoom start (2 * m)
+  pub same : length l ≡ length start
+  pub steps : Steps f start m k l
+
+module _ {f : List ℕ → ℕ → List ℕ} {start : List ℕ} {m : ℕ} where
+  pub counting-begins : {n : ℕ} → TwoNames f → CountRoom start (2 * n) → m ≡ n → Counting f start m 0 start
+  counting-begins two c e = record { two = two; room = rw e c; same = refl; steps = steps-begin }
+
+  module _ {k : ℕ} {l : List ℕ} (w : Counting f start m k l) where
+    pub counting-two : k < m → CountRoom l 2
+    counting-two h = rw (w .steps .so-far) (room-fold (w .two) start k 2 (room-less (w .room) (omega arith)))
+
+    pub counting-one : k < m → CountRoom l 1
+    counting-one h = room-less (counting-two h) (omega arith)
+
+    pub counting-goes : {l′ : List ℕ} → l′ ≡ f l k → length l′ ≡ length l → k < m → Counting f start m (k + 1) l′
+    counting-goes e s h = record { two = w .two; room = w .room; same = s ∙ w .same; steps = steps-go (w .steps) h e }
+
+    pub counting-ends : {n : ℕ} → m ≤ k → m ≡ n → l ≡ fold f start n
+    counting-ends h e = rw (← e) (steps-end (w .steps) h)
