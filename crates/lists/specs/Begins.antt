@@ -1,5 +1,5 @@
 -- A list that another one begins with: what is found in it is found at the same place in the other.
-use Prim.Native.Nat.{ℕ, _+_, _≤_, _<_}
+use Prim.Native.Nat.{ℕ, _≤_, _<_}
 use mathlib.Core.Bool.{Bool, true, false, cond}
 use mathlib.Core.List.{List, [], _∷_, _++_, append-assoc, append-nil}
 use mathlib.Core.Path.{_≡_, refl, ap, sym, _∙_}
@@ -51,7 +51,8 @@ module _ {A : Type 0} where
         (omega (arith, length-append l (w ∷ [])))
 
     -- so where w is looked for, and put to the end if it isn't there, it is found in whatever the list becomes
-    pub place-settled : (l : List A) (w : A) {m : List A} → p w ≡ true → Begins (cond (any (λ j. p (getD l j d)) (length l)) l (l ++ (w ∷ []))) m → placeOf m ≡ placeOf l
+    pub place-settled : (l : List A) (w : A) {m : List A} → p w ≡ true → Begins (cond (any (λ j. p (getD l j d)) (length l)) l (l ++ (w ∷ []))) m
+        → placeOf m ≡ placeOf l
     place-settled l w {m} e = go (any (λ j. p (getD l j d)) (length l)) refl
       where
         go : (u : Bool) → any (λ j. p (getD l j d)) (length l) ≡ u → Begins (cond u l (l ++ (w ∷ []))) m → placeOf m ≡ placeOf l

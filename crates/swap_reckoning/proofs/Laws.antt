@@ -20,7 +20,8 @@ use Rattle.swap_records.specs.Listed.{Inside, entries}
 use Rattle.swap_records.specs.Pairs.{putAt}
 use Rattle.swap_reckoning.specs.Searching.{News, matchesAt, newAt, notePair, slotAt, settledAt, Searchable, Noted}
 use Rattle.swap_reckoning.specs.Naming.{named, namedRoot, namedBy, namedOther, namedEntry, CountRoom, room-less, room-named}
-use Rattle.swap_reckoning.specs.Naming.{two-of-root, two-of-other, two-of-entry, counting-begins, counting-one, counting-two, counting-goes, counting-ends}
+use Rattle.swap_reckoning.specs.Naming.{two-of-root, two-of-other, two-of-entry}
+use Rattle.swap_reckoning.specs.Naming.{counting-begins, counting-one, counting-two, counting-goes, counting-ends}
 use Rattle.swap_reckoning.specs.Reckoned.{asks-low, asks-high, answered, turns-begin, turn-comes, turn-room, turn-asks, turn-keeps, turn-taken}
 use Rattle.swap_reckoning.specs.declared.Counts.{Counts}
 
@@ -50,7 +51,8 @@ module _ {t standing slots news : List ℕ} {q : Counts} (s : Searchable t stand
   note-one {b} a e l = record { noted = rw (eq-eqb (a .0) b e); settled = rw (eq-eqb (a .0) b e); small = l; few = omega arith }
 
   module _ {a b k : ℕ} (w : Reference) (differ : a ≡ b → ⊥) (found : k ≡ first (matchesAt t standing a b) (q .standing)) where
-    pub note-stands : {v : ℕ} → v ≡ getD standing k 0 → w .0 ≡ v + 2 → k < q .standing → Noted t standing slots news q a b news (record { reference = w; needed = q .needed })
+    pub note-stands : {v : ℕ} → v ≡ getD standing k 0 → w .0 ≡ v + 2 → k < q .standing
+        → Noted t standing slots news q a b news (record { reference = w; needed = q .needed })
     unfolding notePair settledAt
     note-stands e p h = record {
       noted = rw (ne-eqb a b differ, stands);

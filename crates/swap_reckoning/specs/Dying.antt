@@ -25,7 +25,8 @@ use Rattle.swap_rules.specs.Swap.{crosses, names, dies}
 use Rattle.swap_records.specs.Kinds.{of-is, ofAt, crossesAt, standsAt}
 use Rattle.swap_records.specs.Listed.{StandingListed}
 use Rattle.swap_records.specs.declared.Pair.{Pair}
-use Rattle.swap_reckoning.specs.Naming.{named, namedRoot, namedBy, namedOther, namedEntry, unnamed, CountRoom, room-less, room-fold, two-of-root, two-of-other}
+use Rattle.swap_reckoning.specs.Naming.{named, namedRoot, namedBy, namedOther, namedEntry, unnamed}
+use Rattle.swap_reckoning.specs.Naming.{CountRoom, room-fold, two-of-root, two-of-other}
 
 -- record i dies
 abbrev pub diesIn : List ℕ → List ℕ → Pair → ℕ → Bool
@@ -130,7 +131,8 @@ module _ {t r : List ℕ} (sized : Sized t r) {l₀ : List ℕ} (none : l₀ ≡
         rw (roots, none) (roots-has named has name-long name-has r noNotes (rootCount r) q (rw length-no-notes h))
         ∙ ap (λ v. not (eqb v 0) || any (rootNames r q) (rootCount r)) (none-named q)
 
-    module _ (p : Pair) {l₂ : List ℕ} (others : l₂ ≡ fold (namedOther t (p .x .0)) l₁ (records t)) {standing : List ℕ} {m : ℕ} (S : StandingListed t p standing m) where
+    module _ (p : Pair) {l₂ : List ℕ} (others : l₂ ≡ fold (namedOther t (p .x .0)) l₁ (records t))
+        {standing : List ℕ} {m : ℕ} (S : StandingListed t p standing m) where
       abbrev x : ℕ
       x = p .x .0
 

@@ -147,10 +147,13 @@ module _ (t : List ℕ) (x y : ℕ) where
     unfolding notePair noted isNew lowOf highOf
     pair-noted p room =
         go (eqb a b) (any (matchesAt t standing a b) m) (any (newAt (p .list) a b) (p .count))
-        ∙ sym (ap₂ (λ (v w : Bool). cond (not (eqb a b) && not v) (cond w (newsOf x p) longer) (newsOf x p)) standing-any (ap₂ ltb (new-first x p a b) (length-news x p)))
+        ∙ sym (ap₂ (λ (v w : Bool). cond (not (eqb a b) && not v) (cond w (newsOf x p) longer) (newsOf x p)) standing-any new-any)
       where
         longer : List Node
         longer = newsOf x p ++ (node x a b ∷ [])
+
+        new-any : any (λ j. same (node x a b) (getD (newsOf x p) j free)) (length (newsOf x p)) ≡ any (newAt (p .list) a b) (p .count)
+        new-any = ap₂ ltb (new-first x p a b) (length-news x p)
 
         go : (u v w : Bool) → newsOf x (cond u p (cond v p (cond w p (record { list = putAt (p .list) (p .count) a b; count = p .count + 1 }))))
             ≡ cond (not u && not v) (cond w (newsOf x p) longer) (newsOf x p)

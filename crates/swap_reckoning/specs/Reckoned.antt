@@ -18,7 +18,8 @@ use Rattle.swap_records.specs.Listed.{RoomFor, CrossingListed, StandingListed, 
 use Rattle.swap_records.specs.Pairs.{PairRoom, pairAt, pairsOf, putAt, length-put, put-here, put-other}
 use Rattle.swap_records.specs.declared.Grandchildren.{Grandchildren}
 use Rattle.swap_records.specs.declared.Pair.{Pair}
-use Rattle.swap_reckoning.specs.Asked.{crossings, newsIn, becomesIn, newsAfter, settledIn, noted, lowNoted, bothNoted, lowSettled, highSettled, crossedNode, news-none, news-all, news-next, becomes-then}
+use Rattle.swap_reckoning.specs.Asked.{crossings, newsIn, becomesIn, newsAfter, settledIn, noted, lowNoted, bothNoted}
+use Rattle.swap_reckoning.specs.Asked.{lowSettled, highSettled, crossedNode, news-none, news-all, news-next, becomes-then}
 use Rattle.swap_reckoning.specs.Searching.{News, settledAt, withNeeded, Searchable, Noted}
 use Rattle.swap_reckoning.specs.Noting.{newsOf, pair-noted, settled-in}
 use Rattle.swap_reckoning.specs.declared.Counts.{Counts}
@@ -32,9 +33,9 @@ pub record SortRoom (t crossing standing slots : List ℕ) : Type 0 where
   pub slots-room : RoomFor t slots
 
 -- each crossing record asks for at most two new ones, and becomes a record with two references
-pub record TurnRoom (news settled : List ℕ) : Type 0 where
+pub record TurnRoom (news kept : List ℕ) : Type 0 where
   pub news-long : length news ≡ 4 * mostRecords
-  pub settled-long : length settled ≡ 2 * mostRecords
+  pub kept-long : length kept ≡ 2 * mostRecords
 
 -- where X(a, b) is looked for: the standing records, and the slots for new ones
 pub record Sources (t : List ℕ) (p : Pair) (standing slots : List ℕ) (q : Counts) : Type 0 where
@@ -58,11 +59,11 @@ pub record Answered (t : List ℕ) (p : Pair) (i : ℕ) (news : List ℕ) (n : �
   pub few : r .needed ≤ n + 2
 
 -- the first k crossing records have had their turn: n records are new, and each of the k becomes a y record with the two references kept for it
-pub record Turns (t : List ℕ) (p : Pair) (crossing news settled : List ℕ) (n k : ℕ) : Type 0 where
-  pub room : TurnRoom news settled
+pub record Turns (t : List ℕ) (p : Pair) (crossing news kept : List ℕ) (n k : ℕ) : Type 0 where
+  pub room : TurnRoom news kept
   pub few : n ≤ 2 * k
   pub news-are : pairsOf (p .x .0) news n ≡ newsAfter t (p .x .0) (p .y .0) k
-  pub settled-are : (j : ℕ) → j < k → pairAt (p .y .0) settled j ≡ becomesIn t (p .x .0) (p .y .0) (ref (getD crossing j 0))
+  pub kept-are : (j : ℕ) → j < k → pairAt (p .y .0) kept j ≡ becomesIn t (p .x .0) (p .y .0) (ref (getD crossing j 0))
 
 -- the lists of the records
 pub record Sorted (t : List ℕ) (p : Pair) (crossing standing slots : List ℕ) (q : Counts) : Type 0 where
@@ -70,18 +71,18 @@ pub record Sorted (t : List ℕ) (p : Pair) (crossing standing slots : List ℕ)
   pub crossing-are : CrossingListed t p crossing (q .crossing)
 
 -- it is the turn of crossing record k
-pub record Turn (t : List ℕ) (p : Pair) (crossing standing slots news settled : List ℕ) (q : Counts) (k : ℕ) : Type 0 where
+pub record Turn (t : List ℕ) (p : Pair) (crossing standing slots news kept : List ℕ) (q : Counts) (k : ℕ) : Type 0 where
   pub sorted : Sorted t p crossing standing slots q
-  pub so-far : Turns t p crossing news settled (q .needed) k
+  pub so-far : Turns t p crossing news kept (q .needed) k
   pub next : k < q .crossing
 
 -- all have had their turn: the new records are the swap's
-pub record Reckoned (t : List ℕ) (p : Pair) (crossing standing slots news settled : List ℕ) (q : Counts) : Type 0 where
+pub record Reckoned (t : List ℕ) (p : Pair) (crossing standing slots news kept : List ℕ) (q : Counts) : Type 0 where
   pub sorted : Sorted t p crossing standing slots q
   pub news-room : 2 * q .needed ≤ length news
-  pub settled-room : 2 * q .crossing ≤ length settled
+  pub kept-room : 2 * q .crossing ≤ length kept
   pub news-are : pairsOf (p .x .0) news (q .needed) ≡ newsIn t (p .x .0) (p .y .0)
-  pub settled-are : (j : ℕ) → j < q .crossing → pairAt (p .y .0) settled j ≡ becomesIn t (p .x .0) (p .y .0) (ref (getD crossing j 0))
+  pub kept-are : (j : ℕ) → j < q .crossing → pairAt (p .y .0) kept j ≡ becomesIn t (p .x .0) (p .y .0) (ref (getD crossing j 0))
 
 -- ---- one record asks
 
@@ -110,8 +111,9 @@ module _ {t : List ℕ} {p : Pair} {standing slots news : List ℕ} {q : Counts}
       room = omega (arith, A .room, L .few);
     })
 
-    module _ {g : Grandchildren} (G : Grands t y i g) (L : Noted t standing slots news q (g .f00 .0) (g .f10 .0) news₁ low) (same : length news₁ ≡ length news)
-        (carried : then ≡ withNeeded q (low .needed)) {news₂ : List ℕ} {high : Settled} (H : Noted t standing slots news₁ then (g .f01 .0) (g .f11 .0) news₂ high) where
+    module _ {g : Grandchildren} (G : Grands t y i g) (L : Noted t standing slots news q (g .f00 .0) (g .f10 .0) news₁ low)
+        (same : length news₁ ≡ length news) (carried : then ≡ withNeeded q (low .needed))
+        {news₂ : List ℕ} {high : Settled} (H : Noted t standing slots news₁ then (g .f01 .0) (g .f11 .0) news₂ high) where
       before : News
       before = record { list = news; count = q .needed }
 
@@ -158,17 +160,17 @@ module _ {t : List ℕ} {p : Pair} {standing slots news : List ℕ} {q : Counts}
 
 -- ---- all crossing records, in their turn
 
-pub turns-begin : {t : List ℕ} {p : Pair} {crossing news settled : List ℕ} → TurnRoom news settled → Turns t p crossing news settled 0 0
+pub turns-begin : {t : List ℕ} {p : Pair} {crossing news kept : List ℕ} → TurnRoom news kept → Turns t p crossing news kept 0 0
 unfolding pairsOf tabulate
 turns-begin {t} {p} r = record {
   room = r;
   few = omega arith;
   news-are = sym (news-none t (p .x .0) (p .y .0));
-  settled-are = λ j b. absurd (not-suc-le-zero b);
+  kept-are = λ j b. absurd (not-suc-le-zero b);
 }
 
-pub turns-all : {t : List ℕ} {p : Pair} {crossing news settled : List ℕ} {n k m : ℕ} → Turns t p crossing news settled n k → k ≡ m
-    → Turns t p crossing news settled n m
+pub turns-all : {t : List ℕ} {p : Pair} {crossing news kept : List ℕ} {n k m : ℕ} → Turns t p crossing news kept n k → k ≡ m
+    → Turns t p crossing news kept n m
 turns-all w e = rw (← e) w
 
 module _ {t : List ℕ} {p : Pair} {crossing standing slots : List ℕ} where
@@ -181,22 +183,22 @@ module _ {t : List ℕ} {p : Pair} {crossing standing slots : List ℕ} where
   few-crossing : {q : Counts} → Sorted t p crossing standing slots q → q .crossing ≤ mostRecords
   few-crossing s = omega (arith, entries-few (s .crossing-are), s .sources .few)
 
-  module _ {news settled : List ℕ} where
-    pub turn-comes : {q q′ : Counts} {n k : ℕ} → Sorted t p crossing standing slots q → Turns t p crossing news settled n k → q′ ≡ withNeeded q n → k < q .crossing
-        → Turn t p crossing standing slots news settled q′ k
+  module _ {news kept : List ℕ} where
+    pub turn-comes : {q q′ : Counts} {n k : ℕ} → Sorted t p crossing standing slots q → Turns t p crossing news kept n k
+        → q′ ≡ withNeeded q n → k < q .crossing → Turn t p crossing standing slots news kept q′ k
     turn-comes {q} {q′} {n} s w e h = rw e (record { sorted = sorted-with s n; so-far = w; next = h })
 
-    pub turns-end : {q q′ : Counts} {n : ℕ} → Sorted t p crossing standing slots q → Turns t p crossing news settled n (q .crossing) → q′ ≡ withNeeded q n
-        → Reckoned t p crossing standing slots news settled q′
+    pub turns-end : {q q′ : Counts} {n : ℕ} → Sorted t p crossing standing slots q → Turns t p crossing news kept n (q .crossing) → q′ ≡ withNeeded q n
+        → Reckoned t p crossing standing slots news kept q′
     turns-end {q} {q′} {n} s w e = rw e (record {
       sorted = sorted-with s n;
       news-room = omega (arith, w .few, w .room .news-long, few-crossing s);
-      settled-room = omega (arith, w .room .settled-long, few-crossing s);
+      kept-room = omega (arith, w .room .kept-long, few-crossing s);
       news-are = w .news-are ∙ ap (newsAfter t (p .x .0) (p .y .0)) (sym (length-entries (s .crossing-are))) ∙ news-all t (p .x .0) (p .y .0);
-      settled-are = w .settled-are;
+      kept-are = w .kept-are;
     })
 
-    module _ {q : Counts} {k : ℕ} (T : Turn t p crossing standing slots news settled q k) where
+    module _ {q : Counts} {k : ℕ} (T : Turn t p crossing standing slots news kept q k) where
       pub turn-room : k < length crossing
       turn-room = omega (arith, T .next, T .sorted .crossing-are .room)
 
@@ -208,34 +210,35 @@ module _ {t : List ℕ} {p : Pair} {crossing standing slots : List ℕ} where
         used = entry-used (in-use t p (T .sorted .crossing-are)) (T .next) e;
       }
 
-      pub turn-keeps : PairRoom settled k
-      turn-keeps = omega (arith, T .next, T .so-far .room .settled-long, few-crossing (T .sorted))
+      pub turn-keeps : PairRoom kept k
+      turn-keeps = omega (arith, T .next, T .so-far .room .kept-long, few-crossing (T .sorted))
 
-      module _ {i : ℕ} (here : i ≡ getD crossing k 0) {news′ : List ℕ} {r : Crossed} (A : Answered t p i news (q .needed) news′ r) (same : length news′ ≡ length news)
-          {settled′ : List ℕ} (kept : settled′ ≡ putAt settled k (r .low .0) (r .high .0)) where
+      module _ {i : ℕ} (here : i ≡ getD crossing k 0)
+          {news′ : List ℕ} {r : Crossed} (A : Answered t p i news (q .needed) news′ r) (same : length news′ ≡ length news)
+          {kept′ : List ℕ} (put : kept′ ≡ putAt kept k (r .low .0) (r .high .0)) where
         place : i ≡ getD (crossings t (p .x .0) (p .y .0)) k 0
         place = here ∙ entry-at (T .sorted .crossing-are) k (T .next)
 
         among : k < length (crossings t (p .x .0) (p .y .0))
         among = rw (length-entries (T .sorted .crossing-are)) (T .next)
 
-        becomes-here : pairAt (p .y .0) settled′ k ≡ becomesIn t (p .x .0) (p .y .0) (ref (getD crossing k 0))
+        becomes-here : pairAt (p .y .0) kept′ k ≡ becomesIn t (p .x .0) (p .y .0) (ref (getD crossing k 0))
         becomes-here =
-            rw kept (put-here (p .y .0) settled k (r .low .0) (r .high .0) turn-keeps)
+            rw put (put-here (p .y .0) kept k (r .low .0) (r .high .0) turn-keeps)
             ∙ A .settled
             ∙ rw (T .so-far .news-are, place) (becomes-then t (p .x .0) (p .y .0) k among)
             ∙ ap (λ j. becomesIn t (p .x .0) (p .y .0) (ref j)) (sym (entry-at (T .sorted .crossing-are) k (T .next)))
 
-        becomes-before : (j : ℕ) → j < k → pairAt (p .y .0) settled′ j ≡ becomesIn t (p .x .0) (p .y .0) (ref (getD crossing j 0))
-        becomes-before j l = rw kept (put-other (p .y .0) settled k (r .low .0) (r .high .0) j l) ∙ T .so-far .settled-are j l
+        becomes-before : (j : ℕ) → j < k → pairAt (p .y .0) kept′ j ≡ becomesIn t (p .x .0) (p .y .0) (ref (getD crossing j 0))
+        becomes-before j l = rw put (put-other (p .y .0) kept k (r .low .0) (r .high .0) j l) ∙ T .so-far .kept-are j l
 
-        pub turn-taken : Turns t p crossing news′ settled′ (r .needed) (k + 1)
+        pub turn-taken : Turns t p crossing news′ kept′ (r .needed) (k + 1)
         turn-taken = record {
           room = record {
             news-long = same ∙ T .so-far .room .news-long;
-            settled-long = ap length kept ∙ length-put settled k (r .low .0) (r .high .0) ∙ T .so-far .room .settled-long;
+            kept-long = ap length put ∙ length-put kept k (r .low .0) (r .high .0) ∙ T .so-far .room .kept-long;
           };
           few = omega (arith, A .few, T .so-far .few);
           news-are = A .noted ∙ rw (T .so-far .news-are, place) (sym (news-next t (p .x .0) (p .y .0) k among));
-          settled-are = λ j l. either-side j k (becomes-before j) (λ d. let z : j ≡ k = omega arith in rw z becomes-here);
+          kept-are = λ j l. either-side j k (becomes-before j) (λ d. let z : j ≡ k = omega arith in rw z becomes-here);
         }

@@ -60,12 +60,12 @@ pub fn reckon(
     standing: &mut [u16],
     slots: &mut [u16],
     news: &mut [u16],
-    settled: &mut [u16],
+    kept: &mut [u16],
 ) -> Counts
-    requires { ⌜ SortRoom (now table) (now crossing) (now standing) (now slots) × TurnRoom (now news) (now settled) ⌝ }
-    ensures { λ q. ⌜ Reckoned (now (table .entry)) pair (now (crossing .exit)) (now (standing .exit)) (now (slots .exit)) (now (news .exit)) (now (settled .exit)) q ⌝ }
+    requires { ⌜ SortRoom (now table) (now crossing) (now standing) (now slots) × TurnRoom (now news) (now kept) ⌝ }
+    ensures { λ q. ⌜ Reckoned (table .entry .now) pair (crossing .exit .now) (standing .exit .now) (slots .exit .now) (news .exit .now) (kept .exit .now) q ⌝ }
 {
     let start = sort_records(table, pair, crossing, standing, slots);
-    let needed = news::take_turns(table, pair, crossing, standing, slots, news, settled, start);
+    let needed = news::take_turns(table, pair, crossing, standing, slots, news, kept, start);
     start.with(needed)
 }

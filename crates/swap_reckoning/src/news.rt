@@ -160,16 +160,16 @@ fn take_turn(
     standing: &[u16],
     slots: &[u16],
     news: &mut [u16],
-    settled: &mut [u16],
+    kept: &mut [u16],
     counts: Counts,
     k: usize,
 ) -> usize
-    requires { ⌜ Turn (now table) pair (now crossing) (now standing) (now slots) (now news) (now settled) counts k ⌝ }
-    ensures { λ n. ⌜ Turns (now (table .entry)) pair (now (crossing .entry)) (now (news .exit)) (now (settled .exit)) n (k + 1) ⌝ }
+    requires { ⌜ Turn (now table) pair (now crossing) (now standing) (now slots) (now news) (now kept) counts k ⌝ }
+    ensures { λ n. ⌜ Turns (now (table .entry)) pair (now (crossing .entry)) (now (news .exit)) (now (kept .exit)) n (k + 1) ⌝ }
 {
     let i = collect::entry(crossing, k);
     let r = note_both(table, pair, standing, slots, news, counts, i);
-    pairs::put(settled, k, r.low, r.high);
+    pairs::put(kept, k, r.low, r.high);
     r.needed
 }
 
@@ -181,11 +181,11 @@ pub fn take_turns(
     standing: &[u16],
     slots: &[u16],
     news: &mut [u16],
-    settled: &mut [u16],
+    kept: &mut [u16],
     start: Counts,
 ) -> usize
-    requires { ⌜ Sorted (now table) pair (now crossing) (now standing) (now slots) start × TurnRoom (now news) (now settled) ⌝ }
-    ensures { λ n. ⌜ Turns (now (table .entry)) pair (now (crossing .entry)) (now (news .exit)) (now (settled .exit)) n (start .crossing) ⌝ }
+    requires { ⌜ Sorted (now table) pair (now crossing) (now standing) (now slots) start × TurnRoom (now news) (now kept) ⌝ }
+    ensures { λ n. ⌜ Turns (now (table .entry)) pair (now (crossing .entry)) (now (news .exit)) (now (kept .exit)) n (start .crossing) ⌝ }
 {
     let m = start.crossing;
     let mut needed: usize = 0;
@@ -199,7 +199,7 @@ pub fn take_turns(
             standing,
             slots,
             news,
-            settled,
+            kept,
             counts,
             k,
         );

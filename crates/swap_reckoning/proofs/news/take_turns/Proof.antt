@@ -9,8 +9,8 @@ pub take-turns-spec : {M : Type 1} → statement M
 take-turns-spec =
     tie.close
     (tie.spec
-    (λ table pair crossing standing slots news₀ settled₀ start m needed₀ k₀ news settled needed k. Turns table pair crossing news settled needed k × (k ≤ m))
-    (λ table pair crossing standing slots news₀ settled₀ start m needed₀ k₀ news settled needed k. m - k)
+    (λ table pair crossing standing slots news₀ kept₀ start m needed₀ k₀ news kept needed k. Turns table pair crossing news kept needed k × (k ≤ m))
+    (λ table pair crossing standing slots news₀ kept₀ start m needed₀ k₀ news kept needed k. m - k)
     (λ c. search turning)
     (λ c κs. search turning)
     (λ c κs. search turning)
