@@ -24,6 +24,8 @@ use Rattle.reading.specs.declared.ReadAnswer.the-variants as reading
 use Rattle.swaps.specs.Outcome as swap
 use Rattle.swaps.specs.Outcome.{SwapOutcome}
 use Rattle.swaps.specs.declared.SwapAnswer.{SwapAnswer}
+use Rattle.plans.specs.BringUp.{bringUp}
+use Rattle.slices.specs.OneSwap.{plainSwap}
 use Rattle.slices.specs.Run as run
 use Rattle.slices.specs.Run.{RunOutcome}
 use Rattle.slices.specs.declared.RunAnswer.{RunAnswer}
@@ -112,7 +114,7 @@ module _ (list t r o g : List ℕ) (budget : ℕ) where
   unfolding toldRun
   run-nothing h = told-nothing 6 list t o _ _ _ h
 
-  module _ {a : RunAnswer} {t′ o′ : List ℕ} (outcome : RunOutcome t r o g budget a t′ o′) where
+  module _ {a : RunAnswer} {t′ o′ : List ℕ} (outcome : RunOutcome plainSwap bringUp t r o g budget a t′ o′) where
     pub run-told : {w : Written} → w ≡ written list (run.numbers a) → 6 ≤ length list → RunTold t r o g budget list w t′ o′
     unfolding toldRun told
     run-told p h = rw (p, le-ltb (length list) 6 h, ← outcome)

@@ -101,12 +101,13 @@ fn tell_swap(answer: &mut [u32], a: SwapAnswer) -> usize
             let numbers = [0u32];
             write(answer, &numbers)
         }
-        SwapAnswer::NoRoom {
-            level,
-            needed,
-            free,
-        } => {
-            let numbers = [100u32, level as u32, needed as u32, free as u32];
+        SwapAnswer::NoRoom(lack) => {
+            let numbers = [
+                100u32,
+                lack.level as u32,
+                lack.needed as u32,
+                lack.free as u32,
+            ];
             write(answer, &numbers)
         }
         SwapAnswer::Refused(refusal) => tell_refusal(answer, refusal),
@@ -140,20 +141,14 @@ fn tell_run(answer: &mut [u32], a: RunAnswer) -> usize
             let numbers = [0u32, swaps as u32, left as u32];
             write(answer, &numbers)
         }
-        RunAnswer::NoRoom {
-            swaps,
-            left,
-            level,
-            needed,
-            free,
-        } => {
+        RunAnswer::NoRoom { swaps, left, lack } => {
             let numbers = [
                 100u32,
                 swaps as u32,
                 left as u32,
-                level as u32,
-                needed as u32,
-                free as u32,
+                lack.level as u32,
+                lack.needed as u32,
+                lack.free as u32,
             ];
             write(answer, &numbers)
         }
