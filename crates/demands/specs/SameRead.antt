@@ -57,21 +57,20 @@ module _ (t t′ r o o′ : List ℕ) (u : Usable t r o) (u′ : Usable t′ r o
     (same : (inputs : ℕ → Bool) (position : ℕ) → position < rootCount r
     → value (lookup t′) inputs (length o) (rootAt r position) ≡ value (lookup t) inputs (length o) (rootAt r position)) where
   pub read-same : (position : ℕ) (inputs : List ℕ) → readOf t′ r o′ position inputs ≡ readOf t r o position inputs
+  unfolding rootValue
   read-same position inputs =
       read-usable t′ r o′ position inputs u′
       ∙ ap (λ v. readAfter v (rootValue t′ r o′ position inputs)) (own-same r o o′ position inputs long)
       ∙ either-side position (rootCount r) there gone
       ∙ sym (read-usable t r o position inputs u)
     where
-      v : Verdict
+      abbrev v : Verdict
       v = verdictOf (ownStages r o position inputs)
 
       there : position < rootCount r → readAfter v (rootValue t′ r o′ position inputs) ≡ readAfter v (rootValue t r o position inputs)
-      unfolding rootValue
       there b = ap (readAfter v) (ap (λ n. value (lookup t′) (inputOf inputs) n (rootAt r position)) long ∙ same (inputOf inputs) position b)
 
       gone : rootCount r ≤ position → readAfter v (rootValue t′ r o′ position inputs) ≡ readAfter v (rootValue t r o position inputs)
-      unfolding v
       gone h = rw (no-root-refused r o position inputs h)
 
 module _ (t r o : List ℕ) where
