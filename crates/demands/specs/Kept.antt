@@ -76,9 +76,9 @@ module _ (t r o : List ℕ) where
 
   -- any swap, made or not, of any bytes
   pub swap-reads : (k position : ℕ) (inputs : List ℕ) → readOf (swapOf t r o k .table) r (swapOf t r o k .order) position inputs ≡ readOf t r o position inputs
-  swap-reads = same.swap-reads t r o
+  swap-reads k position inputs = same.swap-reads t r o k position inputs
 
   -- any run, by Bring Up, of any bytes
   pub run-reads : (g : List ℕ) (budget position : ℕ) (inputs : List ℕ)
       → readOf (runOf plainSwap bringUp t r o g budget .table) r (runOf plainSwap bringUp t r o g budget .order) position inputs ≡ readOf t r o position inputs
-  run-reads = same.run-reads bringUp bring-up-lawful t r o
+  run-reads g budget position inputs = same.run-reads bringUp bring-up-lawful t r o g budget position inputs

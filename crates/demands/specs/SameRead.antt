@@ -25,7 +25,7 @@ use Rattle.swaps.specs.declared.Lack.{Lack}
 use Rattle.swaps.specs.declared.SwapAnswer.{SwapAnswer}
 use Rattle.swaps.specs.declared.SwapAnswer.the-variants as swaps
 use Rattle.slices.specs.OneSwap.{plainSwap}
-use Rattle.slices.specs.Run.{runOf}
+use Rattle.slices.specs.Run.{Ran, runOf}
 use Rattle.slices.specs.Theorems.{run-startable, run-usable, run-long, run-root-value, refused-keeps}
 use Rattle.slices.specs.declared.RunAnswer.{RunAnswer}
 use Rattle.slices.specs.declared.RunAnswer.the-variants as runs
@@ -56,58 +56,62 @@ no-root-refused r o position inputs h = sym (place-refuses 10 position (noRoot r
 module _ (t t′ r o o′ : List ℕ) (u : Usable t r o) (u′ : Usable t′ r o′) (long : length o′ ≡ length o)
     (same : (inputs : ℕ → Bool) (position : ℕ) → position < rootCount r
     → value (lookup t′) inputs (length o) (rootAt r position) ≡ value (lookup t) inputs (length o) (rootAt r position)) where
-  pub read-same : (position : ℕ) (inputs : List ℕ) → readOf t′ r o′ position inputs ≡ readOf t r o position inputs
+  -- after its own checks, Read tells the same value of both
+  value-same : (position : ℕ) (inputs : List ℕ)
+      → readAfter (verdictOf (ownStages r o position inputs)) (rootValue t′ r o′ position inputs)
+      ≡ readAfter (verdictOf (ownStages r o position inputs)) (rootValue t r o position inputs)
   unfolding rootValue
+  value-same position inputs =
+      either-side position (rootCount r)
+      (λ b. ap (readAfter _) (ap (λ n. value (lookup t′) (inputOf inputs) n (rootAt r position)) long ∙ same (inputOf inputs) position b))
+      (λ h. rw (no-root-refused r o position inputs h))
+
+  pub read-same : (position : ℕ) (inputs : List ℕ) → readOf t′ r o′ position inputs ≡ readOf t r o position inputs
   read-same position inputs =
       read-usable t′ r o′ position inputs u′
       ∙ ap (λ v. readAfter v (rootValue t′ r o′ position inputs)) (own-same r o o′ position inputs long)
-      ∙ either-side position (rootCount r) there gone
+      ∙ value-same position inputs
       ∙ sym (read-usable t r o position inputs u)
-    where
-      abbrev v : Verdict
-      v = verdictOf (ownStages r o position inputs)
 
-      there : position < rootCount r → readAfter v (rootValue t′ r o′ position inputs) ≡ readAfter v (rootValue t r o position inputs)
-      there b = ap (readAfter v) (ap (λ n. value (lookup t′) (inputOf inputs) n (rootAt r position)) long ∙ same (inputOf inputs) position b)
+module _ (t r o : List ℕ) (k position : ℕ) (inputs : List ℕ) where
+  -- what Read answers after a swap is what it answers before
+  abbrev SwapSame : Type 0
+  SwapSame = readOf (swapOf t r o k .table) r (swapOf t r o k .order) position inputs ≡ readOf t r o position inputs
 
-      gone : rootCount r ≤ position → readAfter v (rootValue t′ r o′ position inputs) ≡ readAfter v (rootValue t r o position inputs)
-      gone h = rw (no-root-refused r o position inputs h)
+  swap-kept : (swapOf t r o k .answer ≡ swaps.Made → ⊥) → SwapSame
+  swap-kept n = let (p, q) = unmade-keeps t r o k n in ap₂ (λ (a b : List ℕ). readOf a r b position inputs) p q
 
-module _ (t r o : List ℕ) where
-  pub swap-reads : (k position : ℕ) (inputs : List ℕ) → readOf (swapOf t r o k .table) r (swapOf t r o k .order) position inputs ≡ readOf t r o position inputs
-  swap-reads k position inputs = go (swapOf t r o k .answer) refl
-    where
-      abbrev Same : Type 0
-      Same = readOf (swapOf t r o k .table) r (swapOf t r o k .order) position inputs ≡ readOf t r o position inputs
+  swap-by : (a : SwapAnswer) → swapOf t r o k .answer ≡ a → SwapSame
+  swap-by swaps.Made e =
+      let long : length (swapOf t r o k .order) ≡ length o = ap (λ s. length (s .order)) (made-is t r o k e) ∙ length-exchange o k in
+      read-same t (swapOf t r o k .table) r o (swapOf t r o k .order) (made-only t r o k e .0 .0) (made-usable t r o k e) long
+      (made-root-value t r o k e) position inputs
+  swap-by (swaps.NoRoom l) e = swap-kept (λ m. apart (cc))
+  swap-by (swaps.Refused f) e = swap-kept (λ m. apart (cc))
 
-      kept : (swapOf t r o k .answer ≡ swaps.Made → ⊥) → Same
-      kept n = let (p, q) = unmade-keeps t r o k n in ap₂ (λ (a b : List ℕ). readOf a r b position inputs) p q
+  pub swap-reads : SwapSame
+  swap-reads = swap-by (swapOf t r o k .answer) refl
 
-      go : (a : SwapAnswer) → swapOf t r o k .answer ≡ a → Same
-      go swaps.Made e =
-          let long : length (swapOf t r o k .order) ≡ length o = ap (λ s. length (s .order)) (made-is t r o k e) ∙ length-exchange o k in
-          read-same t (swapOf t r o k .table) r o (swapOf t r o k .order) (made-only t r o k e .0 .0) (made-usable t r o k e) long
-          (made-root-value t r o k e) position inputs
-      go (swaps.NoRoom l) e = kept (λ m. apart (cc))
-      go (swaps.Refused f) e = kept (λ m. apart (cc))
+module _ (plan : Plan) (lawful : Lawful plan) (t r o g : List ℕ) (budget position : ℕ) (inputs : List ℕ) where
+  abbrev ran : Ran
+  ran = runOf plainSwap plan t r o g budget
 
-module _ (plan : Plan) (lawful : Lawful plan) (t r o g : List ℕ) (budget : ℕ) where
-  pub run-reads : (position : ℕ) (inputs : List ℕ)
-      → readOf (runOf plainSwap plan t r o g budget .table) r (runOf plainSwap plan t r o g budget .order) position inputs ≡ readOf t r o position inputs
-  run-reads position inputs = go (runOf plainSwap plan t r o g budget .answer) refl
-    where
-      abbrev Same : Type 0
-      Same = readOf (runOf plainSwap plan t r o g budget .table) r (runOf plainSwap plan t r o g budget .order) position inputs ≡ readOf t r o position inputs
+  -- and so after a run
+  abbrev RunSame : Type 0
+  RunSame = readOf (ran .table) r (ran .order) position inputs ≡ readOf t r o position inputs
 
-      started : ((f : Refusal) → runOf plainSwap plan t r o g budget .answer ≡ runs.Refused f → ⊥) → Same
-      started n =
-          let s = run-startable plainSwap plan t r o g budget n in
-          read-same t (runOf plainSwap plan t r o g budget .table) r o (runOf plainSwap plan t r o g budget .order) (s .usable)
-          (run-usable plainSwap plan lawful t r o g s budget) (run-long plainSwap plan lawful t r o g s budget)
-          (run-root-value plainSwap plan lawful t r o g s budget) position inputs
+  run-started : ((f : Refusal) → ran .answer ≡ runs.Refused f → ⊥) → RunSame
+  run-started n =
+      let s = run-startable plainSwap plan t r o g budget n in
+      read-same t (ran .table) r o (ran .order) (s .usable) (run-usable plainSwap plan lawful t r o g s budget)
+      (run-long plainSwap plan lawful t r o g s budget) (run-root-value plainSwap plan lawful t r o g s budget) position inputs
 
-      go : (a : RunAnswer) → runOf plainSwap plan t r o g budget .answer ≡ a → Same
-      go (runs.Refused f) e = let (p, q) = refused-keeps plainSwap plan t r o g budget f e in ap₂ (λ (a b : List ℕ). readOf a r b position inputs) p q
-      go (runs.Done m l) e = started (λ f q. apart (cc))
-      go (runs.NoRoom m l k) e = started (λ f q. apart (cc))
-      go (runs.Paused m l) e = started (λ f q. apart (cc))
+  run-by : (a : RunAnswer) → ran .answer ≡ a → RunSame
+  run-by (runs.Refused f) e =
+      let (p, q) = refused-keeps plainSwap plan t r o g budget f e in ap₂ (λ (a b : List ℕ). readOf a r b position inputs) p q
+  run-by (runs.Done m l) e = run-started (λ f q. apart (cc))
+  run-by (runs.NoRoom m l k) e = run-started (λ f q. apart (cc))
+  run-by (runs.Paused m l) e = run-started (λ f q. apart (cc))
+
+  pub run-reads : RunSame
+  run-reads = run-by (ran .answer) refl
