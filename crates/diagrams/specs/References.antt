@@ -26,7 +26,7 @@ pub dead-says : (t : List ℕ) (x : ℕ) → Says (dead t x) (Dead t x)
 unfolding dead
 dead-says t x = search says
 
-pub names-says : (t : List ℕ) (x : ℕ) → Says (namesRecord t x) ((2 ≤ x) × (x - 2 < records t))
+names-says : (t : List ℕ) (x : ℕ) → Says (namesRecord t x) ((2 ≤ x) × (x - 2 < records t))
 unfolding namesRecord
 names-says t x = search says
 
@@ -38,14 +38,14 @@ module _ (t : List ℕ) (x : ℕ) {b : Bool} (flag : b ≡ namesRecord t x) wher
     pub from-two : 2 ≤ x
     from-two = names-says t x .yes (sym flag ∙ named) .0
 
-    pub number-small : x - 2 < records t
+    number-small : x - 2 < records t
     number-small = names-says t x .yes (sym flag ∙ named) .1
 
     pub number-inside : {i : ℕ} → i ≡ x - 2 → InTable t i
     number-inside e = omega (arith, number-small)
 
   -- it doesn't: a constant, or past the table
-  pub not-inside : b ≡ false → 2 ≤ x → records t ≤ x - 2
+  not-inside : b ≡ false → 2 ≤ x → records t ≤ x - 2
   not-inside e h = either-side (x - 2) (records t) (λ l. absurd (refutes (names-says t x) (sym flag ∙ e) (h, l))) (λ l. l)
 
 pub ruleset naming = (from-two, number-inside, needs)

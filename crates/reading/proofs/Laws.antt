@@ -14,7 +14,7 @@ use Rattle.diagrams.specs.Layout.{records, rootCount, variableAt, lowAt, highAt
 use Rattle.diagrams.specs.Node.{no-constant, free, pick, at, ref}
 use Rattle.diagrams.specs.Decode.{decode}
 use Rattle.diagrams.specs.Lookup.{lookup, node-of, free-of, past-of}
-use Rattle.diagrams.specs.Reduced.{look-plain}
+use Rattle.diagrams.specs.Reduced.{look-ends}
 use Rattle.diagrams.specs.Value.{chosen, met, value}
 use Rattle.diagrams.specs.Falls.{value-terminal}
 use Rattle.checks.specs.Stages.{verdictOf, row-refuses, row-passes, chain}
@@ -38,7 +38,7 @@ module _ (t : List ℕ) (inputs : ℕ → Bool) where
   stays x e = rw e
 
   pub constant-stays : {b : Bool} (x : ℕ) → b ≡ ltb x 2 → b ≡ true → x ≡ chosen inputs (lookup t x) x
-  constant-stays x e h = stays x (look-plain (at (decode t)) x (ltb-true x 2 (sym e ∙ h)))
+  constant-stays x e h = stays x (look-ends (at (decode t)) x (ltb-true x 2 (sym e ∙ h)))
 
   pub past-stays : {i : ℕ} (x : ℕ) → i ≡ x - 2 → 2 ≤ x → records t ≤ i → x ≡ chosen inputs (lookup t x) x
   past-stays {i} x e h l = let z : x ≡ ref i = omega arith in stays x (rw z (past-of t i l))
@@ -64,7 +64,7 @@ pub ruleset taking = (no-constant, constant-stays, past-stays, free-stays, takes
 
 module _ (t : List ℕ) (inputs : ℕ → Bool) where
   pub constant-value : {b : Bool} (n x : ℕ) → b ≡ ltb x 2 → b ≡ true → eqb x 1 ≡ value (lookup t) inputs n x
-  constant-value n x e h = sym (value-terminal (lookup t) inputs n x (look-plain (at (decode t)) x (ltb-true x 2 (sym e ∙ h))))
+  constant-value n x e h = sym (value-terminal (lookup t) inputs n x (look-ends (at (decode t)) x (ltb-true x 2 (sym e ∙ h))))
 
   pub spent-value : (n x : ℕ) → n ≡ 0 → eqb x 1 ≡ value (lookup t) inputs n x
   unfolding value met

@@ -13,7 +13,7 @@ use Rattle.diagrams.specs.Node.{Constant, at}
 use Rattle.diagrams.specs.Decode.{decode}
 use Rattle.diagrams.specs.Lookup.{lookup, length-roots, root-is}
 use Rattle.diagrams.specs.Bryant.{Vertex}
-use Rattle.diagrams.specs.Reduced.{look-plain}
+use Rattle.diagrams.specs.Reduced.{look-ends}
 use Rattle.diagrams.specs.Value.{met, value, Value}
 use Rattle.diagrams.specs.Falls.{meets-terminal, value-is}
 use Rattle.checks.specs.Stages.{refusal, stageAt, verdictOf, FailsFirst, none, also, only-passed, clear-if, refused-if, refused-only, row-passes}
@@ -35,11 +35,11 @@ module _ (t r o : List ℕ) (usable : Usable t r o) where
   root-vertex position l = rw (root-is r position l) at (usable .bryant .graph .rooted _ (record { index = position; below = rw (length-roots r) l; holds = refl }))
 
   pub meets-constant : (position : ℕ) → position < rootCount r → (inputs : ℕ → Bool) → Constant (met (lookup t) inputs (length o) (rootAt r position))
-  meets-constant position l inputs = meets-terminal (look-plain (at (decode t))) (usable .bryant .graph) inputs (rootAt r position) (root-vertex position l)
+  meets-constant position l inputs = meets-terminal (look-ends (at (decode t))) (usable .bryant .graph) inputs (rootAt r position) (root-vertex position l)
 
   -- so what Read computes within n levels is the root's value, as document 01 says it with no bound
   pub root-value : (position : ℕ) → position < rootCount r → (inputs : ℕ → Bool) → Value (lookup t) inputs (rootAt r position) (value (lookup t) inputs (length o) (rootAt r position))
-  root-value position l inputs = value-is (look-plain (at (decode t))) (usable .bryant .graph) inputs (rootAt r position) (root-vertex position l)
+  root-value position l inputs = value-is (look-ends (at (decode t))) (usable .bryant .graph) inputs (rootAt r position) (root-vertex position l)
 
   -- Read answers the value of the root asked for
   pub reads : (position : ℕ) (inputs : List ℕ) → position < rootCount r → badInputs o inputs ≡ false

@@ -19,8 +19,7 @@ use Rattle.check_records.specs.Tests.{badSizes, dead, malformed, notUnder, notB
 use Rattle.checks.specs.Stages.{only, verdictFrom}
 use Rattle.checks.specs.Check.{tableStages, used}
 use Rattle.swap_rules.specs.Record.{lowOf, highOf, isFreeNode, isOf, same}
-use Rattle.swap_rules.specs.Swap as one
-use Rattle.swap_rules.specs.Swap.{grandchild, f00, f01, f10, f11, crosses, asked, stands, isNew, wanted, news, names, dies, slots, slotOf, X, becomes, needed, freeCount, fits, turn, filled, swapped}
+use Rattle.swap_rules.specs.Swap.{grandchild, f00, f01, f10, f11, crosses, asked, stands, isNew, wanted, news, stillNames, dies, slots, slotOf, X, becomes, needed, freeCount, fits, slotIndex, filled, recordAfter, swapped}
 use Rattle.swaps.specs.Outcome.{tableAfter}
 use Rattle.slices.specs.Slices as over
 use Rattle.slices.specs.Slices.{arrived, next, goes, made, slice}
@@ -103,5 +102,5 @@ rows =
 
 -- every row comes out as the sheet has it
 pub sheet : map outcome rows ≡ map expected rows
-unfolding outcome expected rows swap orders rootBytes nodeAt decode eight encode rootsOf runOf runStages badRunSizes badSizes only verdictFrom holdsAt badPlace levelOf tableStages dead malformed notUnder notBelow lowIsHigh sameRecord repeats deadRoot rootNames recordNames idle ranTo answerOf relay slice over.after over.judge made goes next arrived same? differsAt bringUp nearest exchange left inverted pairs total first count tabulate keep once each which look lowOf highOf isFreeNode isOf same grandchild f00 f01 f10 f11 crosses asked stands isNew wanted news names dies slots slotOf X becomes needed freeCount fits turn filled one.after swapped tableAfter
+unfolding outcome expected rows swap orders rootBytes nodeAt decode eight encode rootsOf runOf runStages badRunSizes badSizes only verdictFrom holdsAt badPlace levelOf tableStages dead malformed notUnder notBelow lowIsHigh sameRecord repeats deadRoot rootNames recordNames idle ranTo answerOf relay slice over.after over.judge made goes next arrived same? differsAt bringUp nearest exchange left inverted pairs total first count tabulate keep once each which look lowOf highOf isFreeNode isOf same grandchild f00 f01 f10 f11 crosses asked stands isNew wanted news stillNames dies slots slotOf X becomes needed freeCount fits slotIndex filled recordAfter swapped tableAfter
 sheet = refl

@@ -23,7 +23,7 @@ use Rattle.check_records.specs.Tests.{rootNames}
 use Rattle.check_names.specs.Marks.{roots-long, roots-has, records-long, records-has, length-no-marks, none-marked}
 use Rattle.diagrams.specs.Edition.{plain}
 use Rattle.swap_rules.specs.Record.{lowOf, highOf, isFreeNode}
-use Rattle.swap_rules.specs.Swap.{crosses, names, dies}
+use Rattle.swap_rules.specs.Swap.{crosses, stillNames, dies}
 use Rattle.swap_records.specs.Kinds.{of-is, ofAt, crossesAt, standsAt}
 use Rattle.swap_reckoning.specs.Reckoning.{named, namedRoot, namedBy, namedOther, noNames, namesOf, unnamed}
 
@@ -121,8 +121,8 @@ module _ (t : List ℕ) (x y : ℕ) where
       go true false b false = refl
       go false e b n = refl
 
-  names-is : (q j : ℕ) → j < records t → names plain (at (decode t)) x y q j ≡ keeps t x y q j
-  unfolding names nodeAt isFreeNode lowOf highOf
+  names-is : (q j : ℕ) → j < records t → stillNames plain (at (decode t)) x y q j ≡ keeps t x y q j
+  unfolding stillNames nodeAt isFreeNode lowOf highOf
   names-is q j h = rw (at-decode t j h) (go (isFree t j))
     where
       go : (u : Bool) → (not (isFreeNode (cond u free (node (variableAt t j) (lowAt t j) (highAt t j)))) && not (crosses (lookup t) x y (ref j))
@@ -173,7 +173,7 @@ module _ (t : List ℕ) (x y : ℕ) where
     unfolding rootNames
     roots-named q = rw (length-roots r) (ap (λ k. ltb k (rootCount r)) (first-agrees _ _ (rootCount r) (λ k h. ap (λ v. eqb v q) (root-is r k h))))
 
-    records-name : (q : ℕ) → any (names plain (at (decode t)) x y q) (records t) ≡ any (keeps t x y q) (records t)
+    records-name : (q : ℕ) → any (stillNames plain (at (decode t)) x y q) (records t) ≡ any (keeps t x y q) (records t)
     records-name q = ap (λ k. ltb k (records t)) (first-agrees _ _ (records t) (names-is q))
 
     -- a y record without a name dies

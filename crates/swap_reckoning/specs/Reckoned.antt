@@ -23,7 +23,7 @@ use Rattle.diagrams.specs.Decode.{nodeAt, decode}
 use Rattle.diagrams.specs.Lookup.{lookup, at-decode, rootsOf}
 use Rattle.diagrams.specs.Edition.{plain}
 use Rattle.swap_rules.specs.Record.{isFreeNode, same}
-use Rattle.swap_rules.specs.Swap.{crosses, news, slots, slotOf, needed, freeCount, fits, X, becomes, turn, filled, dies, after, f00, f01, f10, f11}
+use Rattle.swap_rules.specs.Swap.{crosses, news, slots, slotOf, needed, freeCount, fits, X, becomes, slotIndex, filled, dies, recordAfter, f00, f01, f10, f11}
 use Rattle.swap_records.specs.Kinds.{ofAt, crossesAt, standsAt}
 use Rattle.swap_records.specs.Inside.{Inside, inside-of}
 use Rattle.swap_reckoning.specs.Reckoning.{matchesAt, News, newAt, noteCrossing, slotAt, settledAt, namesOf, unnamed, crossedAt, rewritten}
@@ -50,13 +50,13 @@ module _ (t : List ℕ) where
   free-count = ap length (sym slots-which) ∙ which-length (λ i. isFreeNode (at (decode t) i)) (records t)
 
   -- a free record is the slot with as many before it as are free before it
-  turn-free : (i : ℕ) → i < records t → isFree t i ≡ true → turn (at (decode t)) (records t) i ≡ count (isFree t) i
-  unfolding turn
+  turn-free : (i : ℕ) → i < records t → isFree t i ≡ true → slotIndex (at (decode t)) (records t) i ≡ count (isFree t) i
+  unfolding slotIndex
   turn-free i h e = rw slots-which (which-index (isFree t) (records t) i h e)
 
   -- a used one is none
-  turn-used : (i : ℕ) → isFree t i ≡ false → turn (at (decode t)) (records t) i ≡ freeCount (at (decode t)) (records t)
-  unfolding turn
+  turn-used : (i : ℕ) → isFree t i ≡ false → slotIndex (at (decode t)) (records t) i ≡ freeCount (at (decode t)) (records t)
+  unfolding slotIndex
   turn-used i e = rw slots-which (which-absent (isFree t) (records t) i e) ∙ free-count
 
   filled-is : (x y : ℕ) → needed plain (at (decode t)) (records t) x y ≤ freeCount (at (decode t)) (records t)
@@ -64,7 +64,7 @@ module _ (t : List ℕ) where
   unfolding filled
   filled-is x y fit i h = go (by (isFree t i))
     where
-      go : (isFree t i ≡ true) ⊎ (isFree t i ≡ false) → ltb (turn (at (decode t)) (records t) i) (needed plain (at (decode t)) (records t) x y) ≡ (isFree t i && ltb (count (isFree t) i) (needed plain (at (decode t)) (records t) x y))
+      go : (isFree t i ≡ true) ⊎ (isFree t i ≡ false) → ltb (slotIndex (at (decode t)) (records t) i) (needed plain (at (decode t)) (records t) x y) ≡ (isFree t i && ltb (count (isFree t) i) (needed plain (at (decode t)) (records t) x y))
       go (inl e) = rw (e, turn-free i h e)
       go (inr e) = rw (e, turn-used i e) (le-ltb _ _ fit)
 
@@ -162,19 +162,19 @@ module _ {t : List ℕ} {x y : ℕ} {standing : List ℕ} {m : ℕ} {p : News} {
       taken-is = ap (λ n. isFree t i && ltb (count (isFree t) i) n) needed-is ∙ sym (filled-is t x y fit i h)
 
       new-is : (isFree t i && ltb (count (isFree t) i) (p .count)) ≡ true
-          → node x (getD (p .list) (2 * count (isFree t) i) 0) (getD (p .list) (2 * count (isFree t) i + 1) 0) ≡ getD (news plain (at (decode t)) (records t) x y) (turn (at (decode t)) (records t) i) free
+          → node x (getD (p .list) (2 * count (isFree t) i) 0) (getD (p .list) (2 * count (isFree t) i + 1) 0) ≡ getD (news plain (at (decode t)) (records t) x y) (slotIndex (at (decode t)) (records t) i) free
       new-is e =
           sym (news-at x p (count (isFree t) i) (ltb-true _ _ (and-right (isFree t i) _ e)))
           ∙ ap₂ (λ (l : List Node) (j : ℕ). getD l j free) news-is (sym (turn-free t i h (and-left _ _ e)))
 
       other-is : (u : Bool) → (isFree t i && ltb (count (isFree t) i) (p .count)) ≡ u
           → cond u (node x (getD (p .list) (2 * count (isFree t) i) 0) (getD (p .list) (2 * count (isFree t) i + 1) 0)) (cond (ofAt t y i && unnamed names i) free (nodeAt t i))
-          ≡ cond u (getD (news plain (at (decode t)) (records t) x y) (turn (at (decode t)) (records t) i) free) (cond (dies plain (at (decode t)) (records t) x y (rootsOf r) (ref i)) free (at (decode t) i))
+          ≡ cond u (getD (news plain (at (decode t)) (records t) x y) (slotIndex (at (decode t)) (records t) i) free) (cond (dies plain (at (decode t)) (records t) x y (rootsOf r) (ref i)) free (at (decode t) i))
       other-is true e = new-is e
       other-is false e = ap₂ (λ (d : Bool) (o : Node). cond d free o) (buried-is i h) (sym (at-decode t i h))
 
-      pub rewritten-is : rewritten t x y standing m p list frees names i ≡ after plain (at (decode t)) (records t) x y (rootsOf r) i
-      unfolding rewritten crossedAt after becomes
+      pub rewritten-is : rewritten t x y standing m p list frees names i ≡ recordAfter plain (at (decode t)) (records t) x y (rootsOf r) i
+      unfolding rewritten crossedAt recordAfter becomes
       rewritten-is =
           ap₂ (λ (a b : Node). cond (crosses (lookup t) x y (ref i)) a b)
           (ap₂ (node y) (settled-is (f00 (lookup t) y (ref i)) (f10 (lookup t) y (ref i))) (settled-is (f01 (lookup t) y (ref i)) (f11 (lookup t) y (ref i))))

@@ -13,7 +13,7 @@ use Rattle.diagrams.specs.Layout.{records, variableAt, lowAt, highAt, isFree, i
 use Rattle.diagrams.specs.Node.{no-constant, free, pick, at, ref}
 use Rattle.diagrams.specs.Decode.{decode}
 use Rattle.diagrams.specs.Lookup.{lookup, node-of, free-of, past-of, Stored, record-at, stored}
-use Rattle.diagrams.specs.Reduced.{look-plain}
+use Rattle.diagrams.specs.Reduced.{look-ends}
 use Rattle.swap_rules.specs.Record.{lowOf, highOf, isOf, of-true}
 use Rattle.swap_rules.specs.Swap.{grandchild, crosses}
 use Rattle.swap_records.specs.Kinds.{crossesAt, standsAt, of-is}
@@ -29,7 +29,7 @@ module _ (t : List ℕ) (v : ℕ) where
   none-of x e = rw e
 
   pub constant-of : {b : Bool} (x : ℕ) → b ≡ ltb x 2 → b ≡ true → false ≡ isOf v (lookup t x)
-  constant-of x e h = none-of x (look-plain (at (decode t)) x (ltb-true x 2 (sym e ∙ h)))
+  constant-of x e h = none-of x (look-ends (at (decode t)) x (ltb-true x 2 (sym e ∙ h)))
 
   pub outside-of : {i : ℕ} (x : ℕ) → i ≡ x - 2 → 2 ≤ x → records t ≤ i → false ≡ isOf v (lookup t x)
   outside-of {i} x e h l = let z : x ≡ ref i = omega arith in none-of x (rw z (past-of t i l))
