@@ -34,12 +34,12 @@ names-says t x = search says
 
 module _ (t : List ℕ) (x : ℕ) {b : Bool} (flag : b ≡ namesRecord t x) where
   -- it does: which one, and that it lies in the table
-  module _ (named : b ≡ true) where
+  module _ (holds : b ≡ true) where
     pub from-two : 2 ≤ x
-    from-two = names-says t x .yes (sym flag ∙ named) .0
+    from-two = names-says t x .yes (sym flag ∙ holds) .0
 
     number-small : x - 2 < records t
-    number-small = names-says t x .yes (sym flag ∙ named) .1
+    number-small = names-says t x .yes (sym flag ∙ holds) .1
 
     pub number-inside : {i : ℕ} → i ≡ x - 2 → InTable t i
     number-inside e = omega (arith, number-small)

@@ -1,4 +1,4 @@
--- A plan says which levels to swap next: from order and target to the upper one of two neighbouring levels.
+-- Where an order o and its target g differ; and a plan, which says from the two which levels to swap next.
 use Prim.Native.Nat.{ℕ, zero, suc}
 use mathlib.Core.Bool.{Bool, false, not}
 use mathlib.Core.List.{List}
@@ -13,27 +13,15 @@ use Rattle.orders.specs.Permutation.{Permutation}
 use Rattle.orders.specs.Exchange.{exchange}
 use Rattle.plans.specs.Inversions.{left, Adjacent, left-exchange}
 
--- order and target differ at level k
+-- ---- order and target
+
+-- they differ at level k
 unfoldable pub differsAt : List ℕ → List ℕ → ℕ → Bool
 differsAt o g k = not (eqb (getD o k 0) (getD g k 0))
 
--- order equals target
+-- order equals target: they differ at no level
 unfoldable pub same? : List ℕ → List ℕ → Bool
 same? o g = not (any (differsAt o g) (length o))
-
-abbrev pub Plan : Type 0
-Plan = List ℕ → List ℕ → ℕ
-
--- where order and target differ, the plan names an adjacent inverted pair
-pub record Lawful (plan : Plan) : Type 0 where
-  pub names-inversion : (o g : List ℕ) → Permutation o → Permutation g → length o ≡ length g → (o ≡ g → ⊥) → Adjacent o g (plan o g)
-
--- the order that m planned swaps reach
-unfoldable pub reached : Plan → List ℕ → ℕ → List ℕ → List ℕ
-reached plan g zero o = o
-reached plan g (suc m) o = reached plan g m (exchange o (plan o g))
-
--- ---- order equals target where they differ at no level
 
 pub differs-says : (o g : List ℕ) (k : ℕ) → Says (differsAt o g k) (getD o k 0 ≡ getD g k 0 → ⊥)
 unfolding differsAt
@@ -52,8 +40,22 @@ same-says o g e = record {
     nowhere : Says (not (any (differsAt o g) (length o))) (Some (λ k. getD o k 0 ≡ getD g k 0 → ⊥) (length o) → ⊥)
     nowhere = search (says, differs-says)
 
--- ---- no inversion is left only where order and target are equal
+-- ---- a plan
 
+-- from order and target to the upper one of the two levels to swap
+abbrev pub Plan : Type 0
+Plan = List ℕ → List ℕ → ℕ
+
+-- where the two differ, the plan names an adjacent inverted pair
+pub record Lawful (plan : Plan) : Type 0 where
+  pub names-inversion : (o g : List ℕ) → Permutation o → Permutation g → length o ≡ length g → (o ≡ g → ⊥) → Adjacent o g (plan o g)
+
+-- the order that m planned swaps reach
+unfoldable pub reached : Plan → List ℕ → ℕ → List ℕ → List ℕ
+reached plan g zero o = o
+reached plan g (suc m) o = reached plan g m (exchange o (plan o g))
+
+-- with a plan at hand, order and target are equal where no inversion is left
 pub left-zero : {plan : Plan} → Lawful plan → (o g : List ℕ) → Permutation o → Permutation g → length o ≡ length g → left o g ≡ 0 → o ≡ g
 left-zero {plan} w o g h i e z =
     stable (same-says o g e) (λ d. omega (arith, left-exchange o g (plan o g) h (w .names-inversion o g h i e d)))

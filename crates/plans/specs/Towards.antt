@@ -1,4 +1,4 @@
--- An order of n variables that isn't its target yet: they differ, and a plan names an adjacent inverted pair.
+-- Orders of n variables as their own type: while order and target differ, a plan names an adjacent inverted pair.
 use Prim.Native.Nat.{ℕ}
 use mathlib.Core.Bool.{false}
 use mathlib.Core.Path.{_≡_}
@@ -12,7 +12,6 @@ module _ {o g : Order} {n : ℕ} (h : Arranged o n) (i : Arranged g n) (d : same
   pub arranged-differ : bytesOf o n ≡ bytesOf g n → ⊥
   arranged-differ = refutes (same-says (bytesOf o n) (bytesOf g n) (arranged-same-length h i)) d
 
-  -- where they differ, a plan names an adjacent inverted pair
   pub arranged-adjacent : {plan : Plan} → Lawful plan → Adjacent (bytesOf o n) (bytesOf g n) (plan (bytesOf o n) (bytesOf g n))
   arranged-adjacent w =
       w .names-inversion (bytesOf o n) (bytesOf g n) (h .permutation) (i .permutation) (arranged-same-length h i) arranged-differ

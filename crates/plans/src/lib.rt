@@ -1,4 +1,4 @@
-// How far an order is from its target, and which levels to swap next.
+// Orders on their way to a target: where the two differ, how many inversions are left, and which levels a plan swaps next.
 ghost use mathlib.Core.Path.{_≡_};
 ghost use mathlib.Core.Bool.{false};
 ghost use Prim.Native.Nat.{_<_, _≤_, _*_};
@@ -12,7 +12,7 @@ ghost use Rattle.plans.specs.BringUp.{bringUp};
 use diagrams::Variable;
 use orders::Order;
 
-// ---- order equals target
+// ---- order and target
 
 fn differs_at(order: Order, target: Order, level: usize) -> bool
     requires { ⌜ level < ceiling ⌝ }
@@ -21,7 +21,7 @@ fn differs_at(order: Order, target: Order, level: usize) -> bool
     order.variables[level] != target.variables[level]
 }
 
-// The level nearest the top where order and target differ; n where they differ at none of n.
+// The first level, from the top, where order and target differ; n where they differ at none of n.
 fn first_difference(order: Order, target: Order, n: usize) -> usize
     requires { ⌜ n ≤ ceiling ⌝ }
     ensures { λ r. ⌜ r ≡ first (differsAt (order .variables) (target .variables)) n ⌝ }
@@ -36,6 +36,7 @@ fn first_difference(order: Order, target: Order, n: usize) -> usize
     n
 }
 
+// Does order equal target?
 pub fn same(order: Order, target: Order, n: usize) -> bool
     requires { ⌜ n ≤ ceiling ⌝ }
     ensures { λ b. ⌜ b ≡ same? (bytesOf order n) (bytesOf target n) ⌝ }
@@ -77,7 +78,7 @@ fn inverted_before(order: Order, target: Order, n: usize, v: Variable) -> usize
     found
 }
 
-// The number of inversions, counted.
+// How many inversions there are, each pair counted once.
 pub fn left(order: Order, target: Order, n: usize) -> usize
     requires { ⌜ (Arranged order n) × (Arranged target n) ⌝ }
     ensures { λ r. ⌜ (r ≡ left (bytesOf order n) (bytesOf target n)) × (r ≤ ceiling * ceiling) ⌝ }
@@ -91,9 +92,9 @@ pub fn left(order: Order, target: Order, n: usize) -> usize
     sum
 }
 
-// ---- the plan
+// ---- the plans: the upper one of the two levels to swap
 
-// Bring Up: the level above the one where the order has the target's variable of the first level that differs.
+// Bring Up: the target's variable of the first level that differs goes up one level.
 pub fn bring_up(order: Order, target: Order, n: usize) -> usize
     requires { ⌜ (Arranged order n) × (Arranged target n) × (same? (bytesOf order n) (bytesOf target n) ≡ false) ⌝ }
     ensures { λ r. ⌜ r ≡ bringUp (bytesOf order n) (bytesOf target n) ⌝ }

@@ -6,7 +6,10 @@ use Rattle.lists.specs.First.{first}
 use Rattle.lists.specs.Count.{count}
 use Rattle.lists.specs.Total.{total, pairs}
 use Rattle.lists.specs.Tabulate.{tabulate}
-use Rattle.lists.specs.Keep.{keep, once, each, which}
+use Rattle.lists.specs.Keep.{keep}
+use Rattle.lists.specs.Which.{which}
+use Rattle.lists.specs.Each.{each}
+use Rattle.lists.specs.Once.{once}
 use Rattle.diagrams.specs.Node.{Node, free, node, look}
 use Rattle.diagrams.specs.Decode.{nodeAt, decode, eight, encode}
 use Rattle.diagrams.specs.Lookup.{rootsOf}

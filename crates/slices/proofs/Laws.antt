@@ -1,9 +1,10 @@
 -- One law for each way out of a function, over plain variables: its premises are what is known there.
-use Prim.Native.Nat.{ℕ, _+_, _≤_, _<_}
+use Prim.Native.Nat.{ℕ, _+_, _*_, _%_, _≤_, _<_}
 use mathlib.Core.Bool.{Bool, true, false, cond, not}
 use mathlib.Core.List.{List}
-use mathlib.Core.Path.{_≡_, refl, ap, sym, _∙_}
+use mathlib.Core.Path.{_≡_, refl, ap, ap₂, sym, _∙_}
 use native.Mathlib.Omega.{arith}
+use borrow.Author.Needs.{needs}
 use borrow.Author.Tests.{not-true, not-false}
 use lib.Dec.{eqb}
 use lib.ListN.{length, getD}
@@ -14,26 +15,29 @@ use Rattle.lists.specs.Truth.{or-neither}
 use Rattle.orders.specs.Permutation.{ceiling, Permutation}
 use Rattle.orders.specs.Exchange.{exchange}
 use Rattle.orders.specs.Order.{loadOrder, exchangedOrder, Inverse}
-use Rattle.plans.specs.Inversions.{left, Adjacent}
+use Rattle.orders.specs.Arranged.{bytesOf, Arranged, load-bytes, load-arranged, arranged-length, arranged-inverse, exchanged-arranged, exchanged-bytes}
+use Rattle.orders.specs.declared.Order.{Order}
+use Rattle.plans.specs.Inversions.{left}
 use Rattle.plans.specs.Plans.{same?}
 use Rattle.plans.specs.BringUp.{bringUp, bring-up-lawful}
-use Rattle.orders.specs.Arranged.{bytesOf, Arranged, load-bytes, load-arranged, arranged-length, arranged-inverse, exchanged-arranged, exchanged-bytes, arranged-adjacent}
-use Rattle.orders.specs.declared.Order.{Order}
+use Rattle.plans.specs.Towards.{arranged-adjacent}
+use Rattle.slice_rules.specs.Slices as over
+use Rattle.slice_rules.specs.Slices.{slicing-begins, slicing-goes, slicing-rests, slicing-ends}
 use Rattle.check_records.specs.Meaning.{Sized, sized}
 use Rattle.check_records.specs.Tests.{badSizes}
 use Rattle.checks.specs.Stages.{verdictOf, clear-only, chain}
 use Rattle.checks.specs.declared.Refusal.{Refusal}
 use Rattle.checks.specs.declared.Verdict.{Verdict}
 use Rattle.checks.specs.declared.Verdict.the-variants as verdict
-use Rattle.checks.specs.Usable.{Usable}
 use Rattle.swap_rules.specs.Swap.{xAt, yAt}
-use Rattle.swaps.specs.Outcome.{fitsIn, roomOf, tableAfter, RoomOutcome, room-fits, room-lacks}
-use Rattle.swaps.specs.declared.Room.{Room}
-use Rattle.swaps.specs.declared.Room.the-variants as room
-use Rattle.slices.specs.Slices as over
-use Rattle.slices.specs.Slices.{slicing-goes, slicing-rests, slicing-ends}
-use Rattle.slices.specs.Run.{State, relay, badRunSizes, runStages, answerOf, ranTo, runJudged, runOf, stateOf, Stepped, Driven}
-use Rattle.slices.specs.Theorems.{run-starts}
+use Rattle.swaps.specs.Outcome.{wayOf, isClear, tableAfter, TableSwapped}
+use Rattle.swaps.specs.Work.{Asking}
+use Rattle.swaps.specs.declared.Lack.{Lack}
+use Rattle.swaps.specs.declared.Way.{Way}
+use Rattle.swaps.specs.declared.Way.the-variants as way
+use Rattle.slices.specs.OneSwap.{plainSwap}
+use Rattle.slices.specs.Run.{State, relay, badRunSizes, runStages, answerOf, ranTo, runJudged, runOf, SliceDone, RunOutcome, stateOf, Stepped, Driven, judgedOn}
+use Rattle.slices.specs.Theorems.{Startable, run-starts}
 use Rattle.slices.specs.declared.RunAnswer.{RunAnswer}
 use Rattle.slices.specs.declared.RunAnswer.the-variants.{Done, NoRoom, Paused, Refused}
 use Rattle.slices.specs.declared.Turn.{Turn}
@@ -49,176 +53,221 @@ pub ruleset refusing = (sizes-right, passed-all, chain)
 
 -- ---- the plan's pair of levels
 
-module _ {order goal : Order} {n : ℕ} (h : Arranged order n) (i : Arranged goal n) {b : Bool} (same : b ≡ same? (bytesOf order n) (bytesOf goal n)) (differ : b ≡ false) {k : ℕ} (planned : k ≡ bringUp (bytesOf order n) (bytesOf goal n)) where
+pub few-levels : {order : Order} {n : ℕ} → Arranged order n → n ≤ ceiling
+few-levels h = h .few
+
+pub differ : (o g : List ℕ) {b : Bool} → b ≡ same? o g → b ≡ false → same? o g ≡ false
+differ o g e h = sym e ∙ h
+
+module _ {order goal : Order} {n : ℕ} (h : Arranged order n) (i : Arranged goal n) {b : Bool} (same : b ≡ same? (bytesOf order n) (bytesOf goal n)) (apart : b ≡ false)
+    {k : ℕ} (planned : k ≡ bringUp (bytesOf order n) (bytesOf goal n)) where
   pub plan-inside : k + 1 < n
   plan-inside =
-      let a : Adjacent (bytesOf order n) (bytesOf goal n) (bringUp (bytesOf order n) (bytesOf goal n)) = arranged-adjacent h i (sym same ∙ differ) bring-up-lawful in
-      let l : bringUp (bytesOf order n) (bytesOf goal n) + 1 < length (bytesOf order n) = a .within in
-      rw planned (rw (arranged-length h) at l)
+      let l = rw (arranged-length h) at (arranged-adjacent h i (sym same ∙ apart) bring-up-lawful .within) in
+      rw planned l
 
   pub plan-low : k + 1 < ceiling
   plan-low = omega (arith, plan-inside, h .few)
 
-  pub plan-inverse : (k + 1 < ceiling) × Inverse order
-  plan-inverse = (plan-low, arranged-inverse h)
+pub order-inverse : {order : Order} {n : ℕ} → Arranged order n → Inverse order
+order-inverse h = arranged-inverse h
 
-level-at : (order : Order) (n k : ℕ) {x : ℕ} → x ≡ getD (order .variables) k 0 → k < n → x ≡ getD (bytesOf order n) k 0
-level-at order n k e l = e ∙ sym (getD-take n (order .variables) k 0 l)
+pub asking : {t r : List ℕ} {k : ℕ} → Sized t r → k + 1 < ceiling → Asking t k
+asking s l = record { few-records = s .few-records; whole-records = s .whole-records; level = l }
 
--- ---- one planned swap
+-- ---- one planned swap, and the answer judged on the state left
+
+-- the way is that of the order's first n levels
+same-way : (t : List ℕ) (order : Order) (n k : ℕ) → k + 1 < n → wayOf t (order .variables) k ≡ wayOf t (bytesOf order n) k
+unfolding wayOf
+same-way t order n k l = rw (getD-take n (order .variables) k 0 (omega arith), getD-take n (order .variables) (k + 1) 0 l)
+
+same-table : (t r : List ℕ) (order : Order) (n k : ℕ) → k + 1 < n
+    → tableAfter t r (xAt (order .variables) k) (yAt (order .variables) k) ≡ tableAfter t r (xAt (bytesOf order n) k) (yAt (bytesOf order n) k)
+same-table t r order n k l = rw (getD-take n (order .variables) k 0 (omega arith), getD-take n (order .variables) (k + 1) 0 l)
 
 module _ (t r : List ℕ) {order goal : Order} {n : ℕ} (h : Arranged order n) (i : Arranged goal n) {b : Bool} (same : b ≡ same? (bytesOf order n) (bytesOf goal n)) where
-  rests-there : b ≡ true → false ≡ over.goes (relay r) bringUp (bytesOf goal n) (stateOf t order n)
+  rests-there : b ≡ true → false ≡ over.goes (relay plainSwap r) bringUp (bytesOf goal n) (stateOf t order n)
   unfolding over.goes over.arrived relay
   rests-there e = rw (sym same ∙ e)
 
-  pub step-arrived : b ≡ true → Stepped t r order goal n (record { moved = false; order = order }) t
+  pub step-arrived : b ≡ true → Stepped plainSwap bringUp t r order goal n (record { moved = false; order = order }) t
   step-arrived e = record { moves = rests-there e; to = λ f. true-false (sym f); stays = λ f. refl; arranged = h }
 
-  module _ (differ : b ≡ false) {k x y : ℕ} (planned : k ≡ bringUp (bytesOf order n) (bytesOf goal n)) (is-x : x ≡ getD (order .variables) k 0) (is-y : y ≡ getD (order .variables) (k + 1) 0) where
-    inside : k + 1 < n
-    inside = plan-inside h i same differ planned
-
-    x-here : x ≡ xAt (bytesOf order n) k
-    x-here = level-at order n k is-x (omega (arith, inside))
-
-    y-here : y ≡ yAt (bytesOf order n) k
-    y-here = level-at order n (k + 1) is-y inside
-
-    x-there : x ≡ xAt (bytesOf order n) (bringUp (bytesOf order n) (bytesOf goal n))
-    x-there = x-here ∙ ap (xAt (bytesOf order n)) planned
-
-    y-there : y ≡ yAt (bytesOf order n) (bringUp (bytesOf order n) (bytesOf goal n))
-    y-there = y-here ∙ ap (yAt (bytesOf order n)) planned
-
-    fits-now : over.goes (relay r) bringUp (bytesOf goal n) (stateOf t order n) ≡ fitsIn t x y
-    unfolding over.goes over.arrived over.next relay
-    fits-now = rw (sym same ∙ differ, x-there, y-there)
-
-    stepped-now : over.stepped (relay r) bringUp (bytesOf goal n) (stateOf t order n) ≡ record { table = tableAfter t r x y; order = exchange (bytesOf order n) k }
-    unfolding over.next relay
-    stepped-now = rw (x-there, y-there, planned)
-
-    module _ {a : Room} {t′ : List ℕ} (out : RoomOutcome t r x y a t′) where
-      pub step-stuck : (m f : ℕ) → a ≡ room.NoRoom m f → Stepped t r order goal n (record { moved = false; order = order }) t′
-      step-stuck m f e =
-          let lack : fitsIn t x y ≡ false = room-lacks t x y m f (sym e ∙ out .answer) .0 in
-          record { moves = sym lack ∙ sym fits-now; to = λ g. true-false (sym g); stays = λ g. out .table ∙ ap (λ z. cond z (tableAfter t r x y) t) lack; arranged = h }
-
-      pub step-made : {q : Order} → a ≡ room.Made → q ≡ exchangedOrder order k → Stepped t r order goal n (record { moved = true; order = q }) t′
-      step-made {q} e w =
-          let fit : fitsIn t x y ≡ true = room-fits t x y (sym e ∙ out .answer) in
-          let new : t′ ≡ tableAfter t r x y = out .table ∙ ap (λ z. cond z (tableAfter t r x y) t) fit in
-          record {
-            moves = sym fit ∙ sym fits-now;
-            to = λ g. ap (λ z. record { table = z; order = bytesOf q n }) new ∙ ap (λ z. record { table = tableAfter t r x y; order = z }) (ap (λ z. bytesOf z n) w ∙ exchanged-bytes h k inside) ∙ sym stepped-now;
-            stays = λ g. true-false g;
-            arranged = rw w (exchanged-arranged h k inside);
-          }
-
-    -- ---- the answer, judged on the state left
-    module _ (swaps : ℕ) {l : ℕ} (counted : l ≡ left (bytesOf order n) (bytesOf goal n)) {a : Room} (out : a ≡ roomOf t x y) where
-      pub judge-stuck : (m f : ℕ) → a ≡ room.NoRoom m f
-          → NoRoom swaps l k m f ≡ answerOf r swaps (left (bytesOf order n) (bytesOf goal n)) (stateOf t order n) (over.judge (relay r) bringUp (bytesOf goal n) (stateOf t order n))
-      unfolding answerOf over.judge over.arrived over.next relay
-      judge-stuck m f e =
-          let is : roomOf t (xAt (bytesOf order n) k) (yAt (bytesOf order n) k) ≡ room.NoRoom m f = rw (x-here, y-here) at (sym out ∙ e) in
-          let w = room-lacks t (xAt (bytesOf order n) k) (yAt (bytesOf order n) k) m f (sym is) in
-          rw (sym same ∙ differ, ← planned, w .0, ← counted, w .1, w .2)
-
-      pub judge-paused : a ≡ room.Made
-          → Paused swaps l ≡ answerOf r swaps (left (bytesOf order n) (bytesOf goal n)) (stateOf t order n) (over.judge (relay r) bringUp (bytesOf goal n) (stateOf t order n))
-      unfolding answerOf over.judge over.arrived over.next relay
-      judge-paused e =
-          let fit : fitsIn t x y ≡ true = room-fits t x y (sym e ∙ out) in
-          rw (sym same ∙ differ, ← x-there, ← y-there, fit, ← counted)
-
-  pub judge-done : (swaps : ℕ) {l : ℕ} → l ≡ left (bytesOf order n) (bytesOf goal n) → b ≡ true
-      → Done swaps l ≡ answerOf r swaps (left (bytesOf order n) (bytesOf goal n)) (stateOf t order n) (over.judge (relay r) bringUp (bytesOf goal n) (stateOf t order n))
+  pub judge-done : (swaps : ℕ) {l : ℕ} → l ≡ left (bytesOf order n) (bytesOf goal n) → b ≡ true → Done swaps l ≡ judgedOn plainSwap bringUp t r order goal n swaps
   unfolding answerOf over.judge over.arrived relay
   judge-done swaps counted e = rw (sym same ∙ e, ← counted)
+
+  module _ (apart : b ≡ false) {k : ℕ} (planned : k ≡ bringUp (bytesOf order n) (bytesOf goal n)) where
+    inside : k + 1 < n
+    inside = plan-inside h i same apart planned
+
+    -- what the code met is what the slice meets
+    met : {w : Way} → w ≡ wayOf t (order .variables) k → w ≡ wayOf t (bytesOf order n) (bringUp (bytesOf order n) (bytesOf goal n))
+    met e = e ∙ same-way t order n k inside ∙ ap (wayOf t (bytesOf order n)) planned
+
+    goes-as : {w : Way} → w ≡ wayOf t (order .variables) k → over.goes (relay plainSwap r) bringUp (bytesOf goal n) (stateOf t order n) ≡ isClear w
+    unfolding over.goes over.arrived over.next relay
+    goes-as e = rw (sym same ∙ apart, ← met e)
+
+    stepped-now : over.stepped (relay plainSwap r) bringUp (bytesOf goal n) (stateOf t order n)
+        ≡ record { table = tableAfter t r (xAt (bytesOf order n) k) (yAt (bytesOf order n) k); order = exchange (bytesOf order n) k }
+    unfolding over.next relay
+    stepped-now = rw planned
+
+    module _ {w : Way} {t′ : List ℕ} (out : TableSwapped t r (order .variables) k w t′) where
+      pub step-stuck : {l : Lack} → w ≡ way.NoRoom l → Stepped plainSwap bringUp t r order goal n (record { moved = false; order = order }) t′
+      step-stuck {l} e = record {
+        moves = ap isClear (sym e) ∙ sym (goes-as (out .answer));
+        to = λ g. true-false (sym g);
+        stays = λ g. out .table ∙ ap (λ (z : Way). cond (isClear z) (tableAfter t r (xAt (order .variables) k) (yAt (order .variables) k)) t) e;
+        arranged = h;
+      }
+
+      pub step-made : {q : Order} → w ≡ way.Clear → q ≡ exchangedOrder order k → Stepped plainSwap bringUp t r order goal n (record { moved = true; order = q }) t′
+      step-made {q} e p =
+          let new : t′ ≡ tableAfter t r (xAt (bytesOf order n) k) (yAt (bytesOf order n) k) =
+          out .table ∙ ap (λ (z : Way). cond (isClear z) (tableAfter t r (xAt (order .variables) k) (yAt (order .variables) k)) t) e ∙ same-table t r order n k inside in
+          let moved : bytesOf q n ≡ exchange (bytesOf order n) k = ap (λ z. bytesOf z n) p ∙ exchanged-bytes h k inside in
+          record {
+            moves = ap isClear (sym e) ∙ sym (goes-as (out .answer));
+            to = λ g. ap₂ (λ (z o : List ℕ). record { table = z; order = o }) new moved ∙ sym stepped-now;
+            stays = λ g. true-false g;
+            arranged = rw p (exchanged-arranged h k inside);
+          }
+
+    module _ (swaps : ℕ) {l : ℕ} (counted : l ≡ left (bytesOf order n) (bytesOf goal n)) {w : Way} (asked : w ≡ wayOf t (order .variables) k) where
+      judge-meets : answerOf swaps l (over.meets w) ≡ judgedOn plainSwap bringUp t r order goal n swaps
+      unfolding over.judge over.arrived over.next relay
+      judge-meets = rw (sym same ∙ apart, ← met asked, counted)
+
+      pub judge-stuck : {lack : Lack} → w ≡ way.NoRoom lack → NoRoom swaps l lack ≡ judgedOn plainSwap bringUp t r order goal n swaps
+      unfolding answerOf
+      judge-stuck e = ap (λ z. answerOf swaps l (over.meets z)) (sym e) ∙ judge-meets
+
+      pub judge-paused : w ≡ way.Clear → Paused swaps l ≡ judgedOn plainSwap bringUp t r order goal n swaps
+      unfolding answerOf
+      judge-paused e = ap (λ z. answerOf swaps l (over.meets z)) (sym e) ∙ judge-meets
+
+pub ruleset planning = (few-levels, differ, plan-low, order-inverse, asking, needs)
+
+pub ruleset stepping = (step-arrived, step-stuck, step-made)
+
+pub ruleset judging = (judge-done, judge-stuck, judge-paused)
 
 -- ---- the loop
 
 pub same-sizes : (t t₀ : List ℕ) {r : List ℕ} → length t ≡ length t₀ → Sized t₀ r → Sized t r
 same-sizes t t₀ e s = record { few-records = rw e (s .few-records); whole-records = rw e (s .whole-records); few-roots = s .few-roots }
 
-module _ {t₀ r : List ℕ} (start : Order) {goal : Order} {n budget i : ℕ} {t : List ℕ} {order : Order} (so-far : over.Slicing (relay r) bringUp (bytesOf goal n) (stateOf t₀ start n) budget i (stateOf t order n)) where
-  pub drive-rests : {s : Turn} {t′ : List ℕ} → Stepped t r order goal n s t′ → not (s .moved) ≡ true → Arranged order n → Driven t₀ r start goal n budget (record { order = order; swaps = i }) t′
-  drive-rests {s} {t′} p e a =
+-- at i swaps of the budget
+pub record Driving (t₀ r : List ℕ) (start goal : Order) (n budget : ℕ) (t : List ℕ) (order : Order) (i : ℕ) : Type 0 where
+  pub so-far : over.Slicing (relay plainSwap r) bringUp (bytesOf goal n) (stateOf t₀ start n) budget i (stateOf t order n)
+  pub arranged : Arranged order n
+  pub sized : Sized t r
+  pub long : length t ≡ length t₀
+
+pub drive-begins : {t r : List ℕ} {start : Order} (goal : Order) (budget : ℕ) {n : ℕ} → Sized t r → Arranged start n → Driving t r start goal n budget t start 0
+drive-begins {t} {r} goal budget {n} s a = record { so-far = slicing-begins (relay plainSwap r) bringUp (bytesOf goal n); arranged = a; sized = s; long = refl }
+
+module _ {t₀ r : List ℕ} {start goal : Order} {n budget i : ℕ} {t : List ℕ} {order : Order} (d : Driving t₀ r start goal n budget t order i) where
+  pub drive-sized : Sized t r
+  drive-sized = d .sized
+
+  pub drive-arranged : Arranged order n
+  drive-arranged = d .arranged
+
+  pub drive-rests : {s : Turn} {t′ : List ℕ} → Stepped plainSwap bringUp t r order goal n s t′ → not (s .moved) ≡ true
+      → Driven plainSwap bringUp t₀ r start goal n budget (record { order = order; swaps = i }) t′
+  drive-rests {s} {t′} p e =
       let still : s .moved ≡ false = not-true (s .moved) e in
       record {
-        sliced = rw (p .stays still) (slicing-rests (relay r) bringUp (bytesOf goal n) so-far (sym (p .moves) ∙ still));
-        arranged = a;
-        small = so-far .within;
+        sliced = rw (p .stays still) (slicing-rests (relay plainSwap r) bringUp (bytesOf goal n) (d .so-far) (sym (p .moves) ∙ still));
+        arranged = d .arranged;
+        small = d .so-far .within;
       }
 
-  pub drive-goes : {s : Turn} {t′ : List ℕ} → Stepped t r order goal n s t′ → not (s .moved) ≡ false → i < budget
-      → over.Slicing (relay r) bringUp (bytesOf goal n) (stateOf t₀ start n) budget (i + 1) (stateOf t′ (s .order) n)
-  drive-goes {s} p e l =
+  pub drive-goes : {s : Turn} {t′ : List ℕ} {order′ : Order} → Stepped plainSwap bringUp t r order goal n s t′ → not (s .moved) ≡ false → i < budget
+      → order′ ≡ s .order → length t′ ≡ length t → Driving t₀ r start goal n budget t′ order′ (i + 1)
+  drive-goes {s} {t′} p e l o m =
       let gone : s .moved ≡ true = not-false (s .moved) e in
-      slicing-goes (relay r) bringUp (bytesOf goal n) so-far l (sym (p .moves) ∙ gone) (p .to gone)
+      rw o (record {
+        so-far = slicing-goes (relay plainSwap r) bringUp (bytesOf goal n) (d .so-far) l (sym (p .moves) ∙ gone) (p .to gone);
+        arranged = p .arranged;
+        sized = same-sizes t′ t m (d .sized);
+        long = m ∙ d .long;
+      })
 
-  pub drive-ends : budget ≤ i → Arranged order n → Driven t₀ r start goal n budget (record { order = order; swaps = i }) t
-  drive-ends l a = record { sliced = slicing-ends (relay r) bringUp (bytesOf goal n) so-far l; arranged = a; small = so-far .within }
+  pub drive-ends : budget ≤ i → Driven plainSwap bringUp t₀ r start goal n budget (record { order = order; swaps = i }) t
+  drive-ends l = record { sliced = slicing-ends (relay plainSwap r) bringUp (bytesOf goal n) (d .so-far) l; arranged = d .arranged; small = d .so-far .within }
+
+pub ruleset driving = (drive-begins, drive-sized, drive-arranged, drive-rests, drive-goes, drive-ends, needs)
 
 -- ---- the entry
 
 -- a slice that was run is the definition's
-ran-is : (r g : List ℕ) (budget : ℕ) (s x : State) (swaps : ℕ) → swaps ≡ over.made (relay r) bringUp g budget s → x ≡ over.after (relay r) bringUp g budget s
-    → record { answer = answerOf r swaps (left (x .order) g) x (over.judge (relay r) bringUp g x); table = x .table; order = x .order } ≡ ranTo r (over.slice (relay r) bringUp g budget s)
+ran-is : (r g : List ℕ) (budget : ℕ) (s x : State) (swaps : ℕ) → swaps ≡ over.made (relay plainSwap r) bringUp g budget s
+    → x ≡ over.leaves (relay plainSwap r) bringUp g budget s
+    → record { answer = answerOf swaps (left (x .order) g) (over.judge (relay plainSwap r) bringUp g x); table = x .table; order = x .order }
+    ≡ ranTo (over.slice (relay plainSwap r) bringUp g budget s)
 unfolding ranTo over.slice relay
 ran-is r g budget s x swaps e f = rw (e, f)
 
-module _ (t r o g : List ℕ) (budget : ℕ) {v : Verdict} (judged : v ≡ verdictOf (runStages t r o g)) where
-  run-by : {w : Verdict} → v ≡ w → runJudged t r o g budget w ≡ runOf t r o g budget
+module _ (t r o g : List ℕ) (starts : Startable plainSwap t r o g) where
+  pub target-short : length g ≤ ceiling
+  target-short = omega (arith, starts .usable .sizes .few-variables, starts .long)
+
+  pub target-permuted : Permutation g
+  target-permuted = starts .target
+
+  pub order-short : length o ≤ ceiling
+  order-short = starts .usable .sizes .few-variables
+
+  pub order-permuted : Permutation o
+  order-permuted = starts .usable .order
+
+  pub table-sized : Sized t r
+  table-sized = sized (starts .usable .sizes)
+
+  pub still-sized : {t′ : List ℕ} → length t′ ≡ length t → Sized t′ r
+  still-sized {t′} e = same-sizes t′ t e table-sized
+
+  module _ {goal : Order} (goal-is : goal ≡ loadOrder g) where
+    pub goal-arranged : Arranged goal (length o)
+    goal-arranged = rw (goal-is, ← starts .long) (load-arranged g (starts .target) target-short)
+
+    goal-bytes : bytesOf goal (length o) ≡ g
+    goal-bytes = rw (goal-is, ← starts .long) (load-bytes g target-short)
+
+    module _ {start : Order} (start-is : start ≡ loadOrder o) where
+      pub start-arranged : Arranged start (length o)
+      start-arranged = rw start-is (load-arranged o order-permuted order-short)
+
+      start-bytes : bytesOf start (length o) ≡ o
+      start-bytes = rw start-is (load-bytes o order-short)
+
+      pub slice-done : {budget : ℕ} {end : Reached} {t′ o′ : List ℕ} {a : RunAnswer} → Driven plainSwap bringUp t r start goal (length o) budget end t′
+          → o′ ≡ bytesOf (end .order) (length o) → a ≡ judgedOn plainSwap bringUp t′ r (end .order) goal (length o) (end .swaps)
+          → SliceDone plainSwap bringUp t r o g budget a t′ o′
+      slice-done {budget} {end} {t′} {o′} {a} d p q =
+          let n : ℕ = length o in
+          let s : State = record { table = t; order = o } in
+          let made : end .swaps ≡ over.made (relay plainSwap r) bringUp g budget s = rw (goal-bytes, start-bytes) at (d .sliced .swaps-made) in
+          let left : stateOf t′ (end .order) n ≡ over.leaves (relay plainSwap r) bringUp g budget s = rw (goal-bytes, start-bytes) at (d .sliced .state-left) in
+          ap (λ z. record { answer = a; table = t′; order = z }) p
+          ∙ ap (λ z. record { answer = z; table = t′; order = bytesOf (end .order) n }) (rw goal-bytes at q)
+          ∙ ran-is r g budget s (stateOf t′ (end .order) n) (end .swaps) made left
+
+pub run-startable : (t r o g : List ℕ) {v : Verdict} → v ≡ verdictOf (runStages plainSwap t r o g) → v ≡ verdict.Clear → Startable plainSwap t r o g
+run-startable t r o g judged e = run-starts plainSwap t r o g (clear-only (runStages plainSwap t r o g) (sym judged ∙ e))
+
+module _ (t r o g : List ℕ) (budget : ℕ) {v : Verdict} (judged : v ≡ verdictOf (runStages plainSwap t r o g)) where
+  pub run-refused : {f : Refusal} → v ≡ verdict.Refused f → RunOutcome plainSwap bringUp t r o g budget (Refused f) t o
   unfolding runOf
-  run-by e = ap (runJudged t r o g budget) (sym e ∙ judged)
+  run-refused e = ap (runJudged plainSwap bringUp t r o g budget) (sym e ∙ judged)
 
-  pub run-refused : (f : Refusal) → v ≡ verdict.Refused f → record { answer = Refused f; table = t; order = o } ≡ runOf t r o g budget
-  run-refused f e = run-by e
+  pub run-sliced : {a : RunAnswer} {t′ o′ : List ℕ} → v ≡ verdict.Clear → SliceDone plainSwap bringUp t r o g budget a t′ o′ → RunOutcome plainSwap bringUp t r o g budget a t′ o′
+  unfolding runOf
+  run-sliced e d = d ∙ ap (runJudged plainSwap bringUp t r o g budget) (sym e ∙ judged)
 
-  module _ (clear : v ≡ verdict.Clear) where
-    starts : Usable t r o × Permutation g × (length g ≡ length o)
-    starts = run-starts t r o g (clear-only (runStages t r o g) (sym judged ∙ clear))
-
-    few : length g ≤ ceiling
-    few = omega (arith, starts .0 .sizes .few-variables, starts .2)
-
-    pub target-loads : (length g ≤ ceiling) × Permutation g
-    target-loads = (few, starts .1)
-
-    pub order-loads : (length o ≤ ceiling) × Permutation o
-    order-loads = (starts .0 .sizes .few-variables, starts .0 .order)
-
-    pub order-few : length o ≤ ceiling
-    order-few = starts .0 .sizes .few-variables
-
-    pub table-right : Sized t r
-    table-right = sized (starts .0 .sizes)
-
-    module _ {goal : Order} (goal-is : goal ≡ loadOrder g) where
-      pub goal-arranged : Arranged goal (length o)
-      goal-arranged = rw (goal-is, ← starts .2) (load-arranged g (starts .1) few)
-
-      goal-bytes : bytesOf goal (length o) ≡ g
-      goal-bytes = rw (goal-is, ← starts .2) (load-bytes g few)
-
-      module _ {start : Order} (start-is : start ≡ loadOrder o) where
-        pub start-arranged : Arranged start (length o)
-        start-arranged = rw start-is (load-arranged o (starts .0 .order) (starts .0 .sizes .few-variables))
-
-        start-bytes : bytesOf start (length o) ≡ o
-        start-bytes = rw start-is (load-bytes o (starts .0 .sizes .few-variables))
-
-        pub run-ran : {end : Reached} {t′ o′ : List ℕ} {a : RunAnswer} → Driven t r start goal (length o) budget end t′ → o′ ≡ bytesOf (end .order) (length o)
-            → a ≡ answerOf r (end .swaps) (left (bytesOf (end .order) (length o)) (bytesOf goal (length o))) (stateOf t′ (end .order) (length o)) (over.judge (relay r) bringUp (bytesOf goal (length o)) (stateOf t′ (end .order) (length o)))
-            → record { answer = a; table = t′; order = o′ } ≡ runOf t r o g budget
-        run-ran {end} {t′} {o′} {a} d p q =
-            let n : ℕ = length o in
-            let made : end .swaps ≡ over.made (relay r) bringUp g budget (record { table = t; order = o }) = rw (goal-bytes, start-bytes) at (d .sliced .swaps-made) in
-            let left : stateOf t′ (end .order) n ≡ over.after (relay r) bringUp g budget (record { table = t; order = o }) = rw (goal-bytes, start-bytes) at (d .sliced .state-left) in
-            ap (λ z. record { answer = a; table = t′; order = z }) p
-            ∙ ap (λ z. record { answer = z; table = t′; order = bytesOf (end .order) n }) (rw goal-bytes at q)
-            ∙ ran-is r g budget (record { table = t; order = o }) (stateOf t′ (end .order) n) (end .swaps) made left
-            ∙ run-by clear
+pub ruleset starting = (target-short, target-permuted, order-short, order-permuted, table-sized, goal-arranged, start-arranged, needs)

@@ -1,32 +1,34 @@
 -- The numbers of an answer of Run are small: it makes no more swaps than its budget, and left, level, needed and free are those of a table that the relay can use.
-use Prim.Native.Nat.{ℕ, _*_, _≤_, _<_}
-use mathlib.Core.Bool.{Bool, true, false, cond, not}
-use mathlib.Core.List.{List, []}
-use mathlib.Core.Path.{_≡_, refl}
+use Prim.Native.Nat.{ℕ, _+_, _*_, _≤_, _<_}
+use mathlib.Core.Bool.{Bool, true, false, cond}
+use mathlib.Core.List.{List, [], _∷_}
+use mathlib.Core.Path.{_≡_, refl, ap, sym, _∙_}
 use native.Mathlib.Omega.{arith}
 use lib.ListN.{length}
+use Rattle.lists.specs.Apart.{apart}
 use Rattle.lists.specs.Below.{Below}
 use Rattle.diagrams.specs.Layout.{mostRecords}
 use Rattle.orders.specs.Permutation.{ceiling}
-use Rattle.plans.specs.Inversions.{left, left-small}
-use Rattle.plans.specs.Plans.{bringUp, bring-up-within}
-use Rattle.check_records.specs.Meaning.{Sizes}
-use Rattle.checks.specs.Stages.{verdictOf, FailsFirst, here, later, passed-only, clear-only, refused-only}
+use Rattle.plans.specs.Inversions.{left-small}
+use Rattle.plans.specs.Plans.{Plan, Lawful}
+use Rattle.checks.specs.Stages.{FailsFirst, here, later, passed-only}
 use Rattle.checks.specs.Check.{tableStages}
 use Rattle.checks.specs.Theorems.{Bounded, refusal-below, table-bounded}
-use Rattle.checks.specs.declared.Verdict.{Verdict}
-use Rattle.checks.specs.declared.Verdict.the-variants as verdict
 use Rattle.swap_rules.specs.Swap.{xAt, yAt}
 use Rattle.swaps.specs.Bounds.{room-small}
-use Rattle.slices.specs.Slices as over
-use Rattle.slices.specs.Slices.{done, noRoom, paused}
-use Rattle.slices.specs.Run.{State, relay, runStages, answerOf, ranTo, runJudged, runOf, numbers}
-use Rattle.slices.specs.Theorems.{run-sizes, run-starts, good-left}
+use Rattle.swaps.specs.Entry.{lacks-then}
+use Rattle.swaps.specs.declared.Lack.{Lack}
+use Rattle.slices.specs.OneSwap.{plainSwap}
+use Rattle.slices.specs.Run.{runStages, runOf, numbers}
+use Rattle.slices.specs.Answers.{swapsIn, leftIn}
+use Rattle.slices.specs.Theorems.{Startable, run-sizes, run-refuses-only, run-startable, run-usable, run-within, run-left, run-lacks, run-inside}
+use Rattle.slices.specs.declared.RunAnswer.{RunAnswer}
+use Rattle.slices.specs.declared.RunAnswer.the-variants.{Done, NoRoom, Paused, Refused}
 
 -- ---- a refusal
 
 module _ (t r o g : List ℕ) where
-  refused-small : (m k x : ℕ) → mostRecords ≤ m → FailsFirst (runStages t r o g) k x → (k < m) × (x < m)
+  refused-small : (m k x : ℕ) → mostRecords ≤ m → FailsFirst (runStages plainSwap t r o g) k x → (k < m) × (x < m)
   unfolding runStages tableStages Bounded
   refused-small m _ x b (here l d h) = (omega arith, omega arith)
   refused-small m k x b (later h f) =
@@ -36,39 +38,49 @@ module _ (t r o g : List ℕ) where
 
 -- ---- every number of an answer is below m
 
--- of the answer judged on a state with a table and an order of the right sizes
-judged-below : (r g : List ℕ) (m swaps : ℕ) (s : State) → 2 * mostRecords < m → swaps < m → Sizes (s .table) r (s .order)
-    → Below m (numbers (answerOf r swaps (left (s .order) g) s (over.judge (relay r) bringUp g s)))
-unfolding answerOf relay over.judge over.next
-judged-below r g m swaps s big h z = go (over.arrived (relay r) bringUp g s) (relay r .fits s k)
-  where
-    k : ℕ
-    k = bringUp (s .order) g
+module _ (plan : Plan) (lawful : Lawful plan) (t r o g : List ℕ) (budget m : ℕ) (big : 2 * mostRecords < m) (fits : budget < m) where
+  module _ (starts : Startable plainSwap t r o g) where
+    swaps-below : {a : RunAnswer} → runOf plainSwap plan t r o g budget .answer ≡ a → swapsIn a < m
+    swaps-below e = omega (arith, ap swapsIn e, run-within plainSwap plan lawful t r o g starts budget)
 
-    few : length (s .order) ≤ ceiling
-    few = z .few-variables
+    left-below : {a : RunAnswer} → runOf plainSwap plan t r o g budget .answer ≡ a → leftIn a < m
+    left-below e =
+        let few = run-usable plainSwap plan lawful t r o g starts budget .sizes .few-variables in
+        let small = left-small (runOf plainSwap plan t r o g budget .order) g ceiling few in
+        omega (arith, ap leftIn e, run-left plainSwap plan lawful t r o g starts budget, small, few)
 
-    left-below : left (s .order) g < m
-    left-below = omega (arith, left-small (s .order) g ceiling few, few)
+    lack-below : (s l : ℕ) (k : Lack) → runOf plainSwap plan t r o g budget .answer ≡ NoRoom s l k → (k .level < m) × (k .needed < m) × (k .free < m)
+    lack-below s l k e =
+        let sizes = run-usable plainSwap plan lawful t r o g starts budget .sizes in
+        let w = run-lacks plainSwap plan lawful t r o g starts budget s l k e in
+        let o′ = runOf plainSwap plan t r o g budget .order in
+        let t′ = runOf plainSwap plan t r o g budget .table in
+        let is = lacks-then t′ o′ (plan o′ g) k (w .1) .1 in
+        let small = room-small t′ (xAt o′ (plan o′ g)) (yAt o′ (plan o′ g)) m big (sizes .few-records) in
+        let inside = run-inside plainSwap plan lawful t r o g starts budget (w .0) in (
+          omega (arith, ap (λ (z : Lack). z .level) is, inside, sizes .few-variables),
+          omega (arith, ap (λ (z : Lack). z .needed) is, small .0),
+          omega (arith, ap (λ (z : Lack). z .free) is, small .1),
+        )
 
-    go : (a f : Bool) → Below m (numbers (answerOf r swaps (left (s .order) g) s (cond a done (cond (not f) (noRoom k) paused))))
-    go true f = (omega arith, (h, (left-below, tt)))
-    go false true = (omega arith, (h, (left-below, tt)))
-    go false false =
-        let w = room-small (s .table) (xAt (s .order) k) (yAt (s .order) k) m big (z .few-records) in
-        (omega arith, (h, (left-below, (omega (arith, bring-up-within (s .order) g, few), (w .0, (w .1, tt))))))
+    swaps-left : {a : RunAnswer} → runOf plainSwap plan t r o g budget .answer ≡ a → (swapsIn a < m) × (leftIn a < m)
+    swaps-left e = (swaps-below e, left-below e)
 
-module _ (t r o g : List ℕ) (budget m : ℕ) (big : 2 * mostRecords < m) (fits : budget < m) where
-  ran-below : (v : Verdict) → verdictOf (runStages t r o g) ≡ v → Below m (numbers (runJudged t r o g budget v .answer))
-  unfolding ranTo over.slice relay
-  ran-below verdict.Clear e =
-      let w = run-starts t r o g (clear-only (runStages t r o g) e) in
-      let s : State = record { table = t; order = o } in
-      judged-below r g m (over.made (relay r) bringUp g budget s) (over.after (relay r) bringUp g budget s) big (omega (arith, over.made-small (relay r) bringUp g budget s)) (good-left t r o g (w .0) (w .1) (w .2) budget .0 .sizes)
-  ran-below (verdict.Refused f) e =
-      let w = refused-small t r o g m (f .number) (f .place) (omega arith) (refused-only (runStages t r o g) (f .number) (f .place) e) in
-      (w .0, (w .1, tt))
-
-  pub run-numbers-small : Below m (numbers (runOf t r o g budget .answer))
-  unfolding runOf
-  run-numbers-small = ran-below (verdictOf (runStages t r o g)) refl
+  pub run-numbers-small : Below m (numbers (runOf plainSwap plan t r o g budget .answer))
+  run-numbers-small = go (runOf plainSwap plan t r o g budget .answer) refl
+    where
+      go : (a : RunAnswer) → runOf plainSwap plan t r o g budget .answer ≡ a → Below m (numbers a)
+      go (Refused f) e =
+          let w = refused-small t r o g m (f .number) (f .place) (omega arith) (run-refuses-only plainSwap plan t r o g budget (f .number) (f .place) e) in
+          (w .0, (w .1, tt))
+      go (Done s l) e =
+          let w = swaps-left (run-startable plainSwap plan t r o g budget (λ f q. apart (cc))) e in
+          (omega arith, (w .0, (w .1, tt)))
+      go (Paused s l) e =
+          let w = swaps-left (run-startable plainSwap plan t r o g budget (λ f q. apart (cc))) e in
+          (omega arith, (w .0, (w .1, tt)))
+      go (NoRoom s l k) e =
+          let starts = run-startable plainSwap plan t r o g budget (λ f q. apart (cc)) in
+          let w = swaps-left starts e in
+          let v = lack-below starts s l k e in
+          (omega arith, (w .0, (w .1, (v .0, (v .1, (v .2, tt))))))

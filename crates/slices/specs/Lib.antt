@@ -1,4 +1,6 @@
-pub mod Slices
+pub mod OneSwap
 pub mod Run
+pub mod Answers
 pub mod Theorems
+pub mod Adding
 pub mod Bounds

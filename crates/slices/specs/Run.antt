@@ -68,6 +68,10 @@ module _ (W : OneSwap) (plan : Plan) where
   runJudged t r o g budget verdict.Clear = ranTo (over.slice (relay W r) plan g budget (record { table = t; order = o }))
   runJudged t r o g budget (verdict.Refused f) = record { answer = Refused f; table = t; order = o }
 
+  -- the answer and the buffers of a slice that no check refuses
+  abbrev pub SliceDone : List ℕ → List ℕ → List ℕ → List ℕ → ℕ → RunAnswer → List ℕ → List ℕ → Type 0
+  SliceDone t r o g budget a t′ o′ = record { answer = a; table = t′; order = o′ } ≡ runJudged t r o g budget verdict.Clear
+
   unfoldable pub runOf : List ℕ → List ℕ → List ℕ → List ℕ → ℕ → Ran
   runOf t r o g budget = runJudged t r o g budget (verdictOf (runStages W t r o g))
 

@@ -12,7 +12,8 @@ use lib.ListN.{length}
 use Rattle.lists.specs.Says.{Says, says-eqb, refutes, denies, decided}
 use Rattle.lists.specs.Truth.{or-neither, clash}
 use Rattle.diagrams.specs.Layout.{rootCount}
-use Rattle.orders.specs.Permutation.{Permutation, permutation-if, permutation-then}
+use Rattle.orders.specs.Permutation.{Permutation}
+use Rattle.check_permutation.specs.BadPlace.{permutation-if, permutation-then}
 use Rattle.orders.specs.Exchange.{length-exchange}
 use Rattle.plans.specs.Inversions.{left, left-same}
 use Rattle.plans.specs.Plans.{Plan, Lawful, reached}
@@ -20,8 +21,7 @@ use Rattle.slice_rules.specs.Slices as over
 use Rattle.slice_rules.specs.Slices.{Relay, RelayLaws, done, meets}
 use Rattle.check_records.specs.Meaning.{Sizes, sizes-if, sizes-then}
 use Rattle.check_records.specs.Tests.{badSizes}
-use Rattle.checks.specs.Stages.{AllPass, also, only-passed, passed-only, FailsFirst, verdictOf, clear-if, clear-only, refused-if, refused-only}
-use Rattle.checks.specs.Check.{refusal}
+use Rattle.checks.specs.Stages.{AllPass, also, only-passed, passed-only, FailsFirst, refusal, verdictOf, clear-if, clear-only, refused-if, refused-only}
 use Rattle.checks.specs.declared.Refusal.{Refusal}
 use Rattle.checks.specs.declared.Verdict.{Verdict}
 use Rattle.checks.specs.declared.Verdict.the-variants as verdict
@@ -251,7 +251,9 @@ module _ (W : OneSwap) (plan : Plan) (lawful : Lawful plan) (t r o g : List ℕ)
 
   meets-met : (b : ℕ) → (ran b .order ≡ g → ⊥) → over.judge R plan g (end b) ≡ meets (met b)
   unfolding over.next relay
-  meets-met b n = over.meets-next R plan g (end b) (denies (arrived-says b) n) ∙ rw (run-table b, run-order b)
+  meets-met b n =
+      over.meets-next R plan g (end b) (denies (arrived-says b) n)
+      ∙ ap (λ (s : State). meets (W .wayOf (s .table) r (s .order) (plan (s .order) g))) (sym (run-state b))
 
   -- otherwise the answer is what stands in the way of the plan's next swap
   pub run-meets : (b : ℕ) → (ran b .order ≡ g → ⊥) → ran b .answer ≡ answerOf (swapsIn (ran b .answer)) (left (ran b .order) g) (meets (met b))
@@ -262,7 +264,7 @@ module _ (W : OneSwap) (plan : Plan) (lawful : Lawful plan) (t r o g : List ℕ)
   unfolding over.next relay
   met-only b w e =
       let (a, q) = over.meets-only R plan g (end b) w e in
-      (refutes (arrived-says b) a, sym (q ∙ rw (run-table b, run-order b)))
+      (refutes (arrived-says b) a, ap (λ (s : State). W .wayOf (s .table) r (s .order) (plan (s .order) g)) (run-state b) ∙ sym q)
 
   -- done: the target is reached, and as many swaps were made as there were inversions
   pub run-done : (b m l : ℕ) → ran b .answer ≡ Done m l → (ran b .order ≡ g) × (m ≡ left o g) × (l ≡ 0)
@@ -271,6 +273,11 @@ module _ (W : OneSwap) (plan : Plan) (lawful : Lawful plan) (t r o g : List ℕ)
       let order : ran b .order ≡ g = arrived-says b .yes (over.done-arrived R plan g (end b) j) in
       let none : left (ran b .order) g ≡ 0 = ap (λ x. left x g) order ∙ left-same g in
       (order, omega (arith, p, none, run-fall b), q ∙ none)
+
+  -- the plan's next pair of levels is in the order left
+  pub run-inside : (b : ℕ) → (ran b .order ≡ g → ⊥) → plan (ran b .order) g + 1 < length (ran b .order)
+  unfolding over.next relay
+  run-inside b n = rw (run-order b) (next-inside (end b) (good-end b) (denies (arrived-says b) n))
 
   -- no room: the target isn't reached, and the plan's next swap lacks room, by these numbers
   pub run-lacks : (b m l : ℕ) (lack : Lack) → ran b .answer ≡ NoRoom m l lack → (ran b .order ≡ g → ⊥) × (met b ≡ way.NoRoom lack)
@@ -281,11 +288,9 @@ module _ (W : OneSwap) (plan : Plan) (lawful : Lawful plan) (t r o g : List ℕ)
   -- and then Swap, asked for that swap of the buffers left, answers the same and changes nothing
   pub run-lacks-swap : (b m l : ℕ) (lack : Lack) → ran b .answer ≡ NoRoom m l lack
       → W .swapOf (ran b .table) r (ran b .order) (plan (ran b .order) g) ≡ record { answer = swap.NoRoom lack; table = ran b .table; order = ran b .order }
-  unfolding over.next relay
   run-lacks-swap b m l lack e =
       let (n, w) = run-lacks b m l lack e in
-      let level = rw (run-order b) (next-inside (end b) (good-end b) (denies (arrived-says b) n)) in
-      W .swap-stuck (ran b .table) r (ran b .order) (plan (ran b .order) g) (run-usable b) level lack w
+      W .swap-stuck (ran b .table) r (ran b .order) (plan (ran b .order) g) (run-usable b) (run-inside b n) lack w
 
   -- paused: the target isn't reached, nothing stands in the way of the plan's next swap, and exactly the budget of swaps was made
   pub run-paused : (b m l : ℕ) → ran b .answer ≡ Paused m l → (ran b .order ≡ g → ⊥) × (met b ≡ way.Clear) × (m ≡ b)

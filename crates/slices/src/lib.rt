@@ -1,18 +1,19 @@
 // Run one slice of planned swaps towards a target order.
 ghost use mathlib.Core.Path.{_≡_};
-ghost use Rattle.orders.specs.Arranged.{Arranged, bytesOf};
+ghost use Rattle.orders.specs.Arranged.{Arranged};
 ghost use Rattle.plans.specs.BringUp.{bringUp};
-ghost use Rattle.plans.specs.Inversions.{left};
 ghost use Rattle.check_records.specs.Meaning.{Sized};
 ghost use Rattle.checks.specs.Stages.{verdictOf};
-ghost use Rattle.slices.specs.Slices as over;
-ghost use Rattle.slices.specs.Run.{badRunSizes, runStages, relay, answerOf, stateOf, Stepped, Driven, RunOutcome};
+ghost use Rattle.slices.specs.OneSwap.{plainSwap};
+ghost use Rattle.slices.specs.Run.{badRunSizes, runStages, Stepped, Driven, judgedOn, RunOutcome};
+ghost use Rattle.slices.specs.Theorems.{Startable};
+ghost use Rattle.slices.specs.Run.{SliceDone};
 use checks::Refusal;
 use checks::Verdict;
 use orders::Order;
-use swaps::Room;
+use swaps::Lack;
+use swaps::Way;
 
-// What Run answers of a slice.
 pub enum RunAnswer {
     Done {
         swaps: usize,
@@ -21,9 +22,7 @@ pub enum RunAnswer {
     NoRoom {
         swaps: usize,
         left: usize,
-        level: usize,
-        needed: usize,
-        free: usize,
+        lack: Lack,
     },
     Paused {
         swaps: usize,
@@ -53,7 +52,7 @@ fn bad_run_sizes(table: &[u8], roots: &[u8], order: &[u8], target: &[u8]) -> boo
 }
 
 fn verdict_of_run(table: &[u8], roots: &[u8], order: &[u8], target: &[u8]) -> Verdict
-    ensures { λ v. ⌜ v ≡ verdictOf (runStages (now (table .entry)) (now (roots .entry)) (now (order .entry)) (now (target .entry))) ⌝ }
+    ensures { λ v. ⌜ v ≡ verdictOf (runStages plainSwap (now (table .entry)) (now (roots .entry)) (now (order .entry)) (now (target .entry))) ⌝ }
 {
     if bad_run_sizes(table, roots, order, target) {
         return Verdict::Refused(Refusal {
@@ -82,23 +81,21 @@ fn verdict_of_run(table: &[u8], roots: &[u8], order: &[u8], target: &[u8]) -> Ve
 
 fn step(table: &mut [u8], roots: &[u8], order: Order, goal: Order, n: usize) -> Turn
     requires { ⌜ Sized (now table) (now roots) × (Arranged order n × Arranged goal n) ⌝ }
-    ensures { λ s. ⌜ Stepped (now (table .entry)) (now (roots .entry)) order goal n s (now (table .exit)) ⌝ }
+    ensures { λ s. ⌜ Stepped plainSwap bringUp (now (table .entry)) (now (roots .entry)) order goal n s (now (table .exit)) ⌝ }
 {
-    if order.same(goal, n) {
+    if plans::same(order, goal, n) {
         return Turn {
             moved: false,
             order,
         };
     }
-    let level = order.bring_up(goal, n);
-    let x = order.variable_at(level);
-    let y = order.variable_at(level + 1);
-    match swaps::swap_table(table, roots, x, y) {
-        Room::NoRoom { needed: _, free: _ } => Turn {
+    let level = plans::bring_up(order, goal, n);
+    match swaps::swap_table(table, roots, order, level) {
+        Way::NoRoom(_) => Turn {
             moved: false,
             order,
         },
-        Room::Made => Turn {
+        Way::Clear => Turn {
             moved: true,
             order: order.exchanged(level),
         },
@@ -115,7 +112,7 @@ fn drive(
     budget: usize,
 ) -> Reached
     requires { ⌜ Sized (now table) (now roots) × (Arranged start n × Arranged goal n) ⌝ }
-    ensures { λ l. ⌜ Driven (now (table .entry)) (now (roots .entry)) start goal n budget l (now (table .exit)) ⌝ }
+    ensures { λ l. ⌜ Driven plainSwap bringUp (now (table .entry)) (now (roots .entry)) start goal n budget l (now (table .exit)) ⌝ }
 {
     let mut order = start;
     let mut swaps: usize = 0;
@@ -134,25 +131,40 @@ fn drive(
 
 fn judge(table: &[u8], roots: &[u8], order: Order, goal: Order, n: usize, swaps: usize) -> RunAnswer
     requires { ⌜ Sized (now table) (now roots) × (Arranged order n × Arranged goal n) ⌝ }
-    ensures { λ a. ⌜ a ≡ answerOf (now (roots .entry)) swaps (left (bytesOf order n) (bytesOf goal n)) (stateOf (now (table .entry)) order n) (over.judge (relay (now (roots .entry))) bringUp (bytesOf goal n) (stateOf (now (table .entry)) order n)) ⌝ }
+    ensures { λ a. ⌜ a ≡ judgedOn plainSwap bringUp (now (table .entry)) (now (roots .entry)) order goal n swaps ⌝ }
 {
-    let left = order.left(goal, n);
-    if order.same(goal, n) {
+    let left = plans::left(order, goal, n);
+    if plans::same(order, goal, n) {
         return RunAnswer::Done { swaps, left };
     }
-    let level = order.bring_up(goal, n);
-    let x = order.variable_at(level);
-    let y = order.variable_at(level + 1);
-    match swaps::has_room(table, roots, x, y) {
-        Room::NoRoom { needed, free } => RunAnswer::NoRoom {
-            swaps,
-            left,
-            level,
-            needed,
-            free,
-        },
-        Room::Made => RunAnswer::Paused { swaps, left },
+    let level = plans::bring_up(order, goal, n);
+    match swaps::ask(table, order, level) {
+        Way::NoRoom(lack) => RunAnswer::NoRoom { swaps, left, lack },
+        Way::Clear => RunAnswer::Paused { swaps, left },
     }
+}
+
+// ---- the entry
+
+// One slice of a table that is accepted, towards a permutation of its variables.
+fn run_slice(
+    table: &mut [u8],
+    roots: &[u8],
+    order: &mut [u8],
+    target: &[u8],
+    budget: u32,
+) -> RunAnswer
+    requires { ⌜ Startable plainSwap (now table) (now roots) (now order) (now target) ⌝ }
+    ensures { λ a. ⌜ SliceDone plainSwap bringUp (now (table .entry)) (now (roots .entry)) (now (order .entry)) (now (target .entry)) budget a (now (table .exit)) (now (order .exit)) ⌝ }
+{
+    let n = order.len();
+    let goal = Order::load(target);
+    let start = Order::load(order);
+    let reached = drive(table, roots, start, goal, n, budget as usize);
+    let end = reached.order;
+    let swaps = reached.swaps;
+    end.store(order);
+    judge(table, roots, end, goal, n, swaps)
 }
 
 pub fn run(
@@ -162,18 +174,10 @@ pub fn run(
     target: &[u8],
     budget: u32,
 ) -> RunAnswer
-    ensures { λ a. ⌜ RunOutcome (now (table .entry)) (now (roots .entry)) (now (order .entry)) (now (target .entry)) budget a (now (table .exit)) (now (order .exit)) ⌝ }
+    ensures { λ a. ⌜ RunOutcome plainSwap bringUp (now (table .entry)) (now (roots .entry)) (now (order .entry)) (now (target .entry)) budget a (now (table .exit)) (now (order .exit)) ⌝ }
 {
-    let verdict = verdict_of_run(table, roots, order, target);
-    if let Verdict::Refused(refusal) = verdict {
-        return RunAnswer::Refused(refusal);
+    match verdict_of_run(table, roots, order, target) {
+        Verdict::Refused(refusal) => RunAnswer::Refused(refusal),
+        Verdict::Clear => run_slice(table, roots, order, target, budget),
     }
-    let n = order.len();
-    let goal = Order::load(target);
-    let start = Order::load(order);
-    let reached = drive(table, roots, start, goal, n, budget as usize);
-    let end = reached.order;
-    let swaps = reached.swaps;
-    end.store(order);
-    judge(table, roots, end, goal, n, swaps)
 }

@@ -12,10 +12,10 @@ use lib.Seq.{getD-set-same, getD-set-other}
 use borrow.Author.Tests.{lt-ltb, le-ltb, eqb-true, eqb-false, eq-eqb, ne-eqb}
 use Rattle.lists.specs.First.{first, any, first-agrees}
 use Rattle.lists.specs.Fold.{fold}
-use Rattle.lists.specs.Keep.{which}
+use Rattle.lists.specs.Which.{which}
 use Rattle.lists.specs.Says.{either-side}
 use Rattle.lists.specs.Tabulate.{tabulate, length-tabulate, getD-tabulate, tabulate-agrees, tabulate-snoc}
-use Rattle.lists.specs.Which.{which-finds, which-misses}
+use Rattle.lists.specs.Ranks.{which-finds, which-misses}
 use Rattle.lists.specs.Collect.{Collected}
 use Rattle.lists.specs.Entries.{length-entries, entry-at, entry-below}
 use Rattle.lists.specs.Truth.{by}

@@ -13,9 +13,9 @@ use Rattle.lists.specs.Count.{count}
 use Rattle.lists.specs.Collect.{Collected}
 use Rattle.lists.specs.Entries.{through, length-entries, entry-at, entry-below, fold-entries}
 use Rattle.lists.specs.Fold.{fold}
-use Rattle.lists.specs.Keep.{which, which-length}
+use Rattle.lists.specs.Which.{which, which-length, which-agrees}
 use Rattle.lists.specs.Says.{either-side}
-use Rattle.lists.specs.Which.{which-agrees, which-index, which-absent}
+use Rattle.lists.specs.Ranks.{which-index, which-absent}
 use Rattle.lists.specs.Truth.{by, and-left, and-right}
 use Rattle.diagrams.specs.Layout.{mostRecords, records, variableAt, lowAt, highAt, isFree}
 use Rattle.diagrams.specs.Node.{Node, free, node, at, ref, two-more}

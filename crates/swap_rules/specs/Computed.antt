@@ -7,9 +7,9 @@ use mathlib.Core.Logic.{_≢_, _⊎_, inl, inr, ⊎-elim}
 use mathlib.Core.Path.{_≡_, refl, ap, ap₂, sym, _∙_, subst}
 use lib.ListN.{length, getD}
 use borrow.Author.Tests.{ltb-true}
-use Rattle.lists.specs.First.{first, any, first-holds}
+use Rattle.lists.specs.First.{first, any, first-holds, first-below}
 use Rattle.lists.specs.Says.{Some, says-eqb, refutes, decided, either-side}
-use Rattle.lists.specs.Keep.{Mem, first-below, at-mem, mem-at, apart-at}
+use Rattle.lists.specs.Mem.{Mem, at-mem, mem-at, apart-at}
 use Rattle.lists.specs.Truth.{by, clash}
 use Rattle.diagrams.specs.Node.{Node, free, node, ref, look}
 use Rattle.diagrams.specs.Edition.{Edition, invert, bare, turned, seen, Rooted, turned-twice, seen-opposite, opposite-one, bare-upright, invert-twice}

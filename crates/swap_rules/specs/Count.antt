@@ -4,8 +4,8 @@ use mathlib.Core.Bool.{Bool, true, false}
 use mathlib.Core.List.{List}
 use mathlib.Core.Logic.{inl, inr}
 use mathlib.Core.Path.{_≡_, ap, sym, _∙_}
-use Rattle.lists.specs.Count.{bit, count}
-use Rattle.lists.specs.Keep.{count-both, count-places}
+use Rattle.lists.specs.Count.{bit, count, count-both}
+use Rattle.lists.specs.Places.{count-places}
 use Rattle.diagrams.specs.Node.{Node, free, node, ref}
 use Rattle.diagrams.specs.Edition.{Edition, seen}
 use Rattle.swap_rules.specs.Record.{isFreeNode, isUsedNode, UsedOf, free-false}

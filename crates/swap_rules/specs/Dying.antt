@@ -8,8 +8,7 @@ use lib.Dec.{eqb}
 use lib.ListN.{length, getD}
 use borrow.Author.Tests.{eqb-true, eq-eqb, not-true}
 use Rattle.lists.specs.First.{any}
-use Rattle.lists.specs.Keep.{says-itself}
-use Rattle.lists.specs.Says.{Says, Some, says-any, says-eqb, says-not, says-and, refutes, denies, decided}
+use Rattle.lists.specs.Says.{Says, Some, says-itself, says-any, says-eqb, says-not, says-and, refutes, denies, decided}
 use Rattle.lists.specs.Truth.{clash, and-left, and-right, and-both, or-cases, true-not}
 use Rattle.diagrams.specs.Node.{Node, free, node, pick, ref}
 use Rattle.diagrams.specs.Edition.{Edition, invert, bare, oneRecord, turned, seen, Rooted, bare-opposite, seen-opposite, bare-invert, pick-invert, bare-one}

@@ -5,7 +5,10 @@ use mathlib.Core.List.{List, [], _∷_, _++_, append-assoc, append-nil}
 use mathlib.Core.Path.{_≡_, refl, ap, sym, _∙_}
 use lib.ListN.{length, getD}
 use Rattle.lists.specs.First.{any}
-use Rattle.lists.specs.Keep.{keep, once, each, which, keep-append, once-more, each-append}
+use Rattle.lists.specs.Keep.{keep, keep-append}
+use Rattle.lists.specs.Which.{which}
+use Rattle.lists.specs.Each.{each, each-append}
+use Rattle.lists.specs.Once.{once, once-more}
 use Rattle.diagrams.specs.Node.{Node, free, ref}
 use Rattle.diagrams.specs.Edition.{Edition, seen}
 use Rattle.swap_rules.specs.Record.{same, says-same}

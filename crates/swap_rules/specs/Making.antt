@@ -9,9 +9,13 @@ use lib.Dec.{eqb}
 use lib.ListN.{length, getD}
 use borrow.Author.Tests.{eqb-true, eq-eqb, ne-eqb, ltb-true, lt-ltb}
 use Rattle.lists.specs.First.{any, first-holds}
-use Rattle.lists.specs.Says.{Says, Some, says-any, says-eqb, says-not, says-and, decided}
-use Rattle.lists.specs.Keep.{keep, which, Mem, Apart, says-itself, at-mem, keep-mem, mem-keep, once-mem, mem-once, once-apart, each-mem, mem-each}
-use Rattle.lists.specs.Keep.{which-mem, mem-which, which-apart, place-at}
+use Rattle.lists.specs.Says.{Says, Some, says-itself, says-any, says-eqb, says-not, says-and, decided}
+use Rattle.lists.specs.Mem.{Mem, Apart, at-mem}
+use Rattle.lists.specs.Keep.{keep, keep-mem, mem-keep}
+use Rattle.lists.specs.Which.{which, which-mem, mem-which, which-apart}
+use Rattle.lists.specs.Each.{each-mem, mem-each}
+use Rattle.lists.specs.Once.{once-mem, mem-once, once-apart}
+use Rattle.lists.specs.Places.{place-at}
 use Rattle.lists.specs.Truth.{clash}
 use Rattle.diagrams.specs.Node.{Node, free, node, ref}
 use Rattle.diagrams.specs.Edition.{Edition, invert, bare, turned, seen, opposite-one, invert-not}

@@ -8,7 +8,7 @@ use mathlib.Core.Path.{_≡_, refl, ap, sym, _∙_, fun-ext}
 use lib.ListN.{length, getD, List·getD-eq-default}
 use borrow.Author.Tests.{leb-true}
 use Rattle.lists.specs.Tabulate.{length-tabulate, getD-tabulate}
-use Rattle.lists.specs.Keep.{which-length}
+use Rattle.lists.specs.Which.{which-length}
 use Rattle.lists.specs.Says.{either-side}
 use Rattle.diagrams.specs.Node.{Node, free, at, ref, look}
 use Rattle.diagrams.specs.Levels.{free-node}

@@ -10,7 +10,10 @@ use lib.ListN.{length, getD}
 use Rattle.lists.specs.First.{first, any}
 use Rattle.lists.specs.Count.{count}
 use Rattle.lists.specs.Tabulate.{tabulate}
-use Rattle.lists.specs.Keep.{keep, once, each, which}
+use Rattle.lists.specs.Keep.{keep}
+use Rattle.lists.specs.Which.{which}
+use Rattle.lists.specs.Each.{each}
+use Rattle.lists.specs.Once.{once}
 use Rattle.diagrams.specs.Node.{Node, free, node, pick, at, ref, look}
 use Rattle.diagrams.specs.Edition.{Edition, plain, invert, oneRecord, turned, seen}
 use Rattle.swap_rules.specs.Record.{lowOf, highOf, isFreeNode, isUsedNode, isOf, same}

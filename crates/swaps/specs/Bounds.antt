@@ -7,7 +7,10 @@ use native.Mathlib.Omega.{arith}
 use lib.ListN.{length}
 use Rattle.lists.specs.Below.{Below}
 use Rattle.lists.specs.Count.{count-small}
-use Rattle.lists.specs.Keep.{keep, which, keep-short, once-short, each-length, which-length}
+use Rattle.lists.specs.Keep.{keep, keep-short}
+use Rattle.lists.specs.Which.{which, which-length}
+use Rattle.lists.specs.Each.{each-length}
+use Rattle.lists.specs.Once.{once-short}
 use Rattle.diagrams.specs.Layout.{recordSize, mostRecords, records}
 use Rattle.diagrams.specs.Node.{Node, at}
 use Rattle.diagrams.specs.Decode.{decode}
