@@ -9,8 +9,9 @@ use lib.Seq.{set-out}
 use Rattle.lists.specs.First.{first}
 use Rattle.lists.specs.Fold.{fold}
 use Rattle.diagrams.specs.Layout.{mostRecords, records, rootCount, lowAt, highAt, isUsed, rootAt}
-use Rattle.check_records.specs.Tests.{idle}
-use Rattle.check_names.specs.Marks.{markedRoot, markedRecord, noMarks, marksOf, unmarked, unmarked-idle}
+use Rattle.diagrams.specs.Noting.{noNotes}
+use Rattle.check_names.specs.Names.{idle}
+use Rattle.check_names.specs.Marks.{markedRoot, markedRecord, marksOf, unmarked, unmarked-idle}
 
 -- ---- marking
 
@@ -34,7 +35,7 @@ pub ruleset marking = (mark-none, used-marks, free-marks, root-marks, needs)
 
 -- ---- the scan of check 9 finds what its test says
 
-pub mark-scan : (t r : List ℕ) {l₀ l₁ l₂ : List ℕ} {x : ℕ} → l₀ ≡ noMarks → l₁ ≡ fold (markedRoot r) l₀ (rootCount r) → l₂ ≡ fold (markedRecord t) l₁ (records t)
+pub mark-scan : (t r : List ℕ) {l₀ l₁ l₂ : List ℕ} {x : ℕ} → l₀ ≡ noNotes → l₁ ≡ fold (markedRoot r) l₀ (rootCount r) → l₂ ≡ fold (markedRecord t) l₁ (records t)
     → x ≡ first (unmarked t l₂) (records t) → records t ≤ mostRecords → x ≡ first (idle t r) (records t)
 unfolding marksOf
 mark-scan t r e p q f h =

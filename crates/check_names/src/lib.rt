@@ -1,20 +1,19 @@
-// Check 9: each reference that a root or a used record names is marked, in one pass; then each used record looks at its mark.
+// Check 9: the first used record that nobody names. Each reference that a root or a used record names is marked, in one pass; then each used record looks at its mark.
 ghost use mathlib.Core.Path.{_≡_};
 ghost use Prim.Native.Nat.{_+_, _<_, _≤_};
 ghost use lib.ListN.{length, set};
 ghost use Rattle.lists.specs.First.{first};
 ghost use Rattle.lists.specs.Fold.{fold};
 ghost use Rattle.diagrams.specs.Layout.{mostRecords, records, rootCount, InTable, InRoots};
-ghost use Rattle.check_records.specs.Tests.{idle};
-ghost use Rattle.check_names.specs.Marks.{noMarks, markedRoot, markedRecord, unmarked};
+ghost use Rattle.diagrams.specs.Noting.{noNotes};
+ghost use Rattle.check_names.specs.Names.{idle};
+ghost use Rattle.check_names.specs.Marks.{markedRoot, markedRecord, unmarked};
 use diagrams::MOST_RECORDS;
-use diagrams::RECORD_SIZE;
-use diagrams::ROOT_SIZE;
 use diagrams::RecordNumber;
 use diagrams::Reference;
 
 fn no_marks() -> [u8; MOST_RECORDS + 2]
-    ensures { λ m. ⌜ m ≡ noMarks ⌝ }
+    ensures { λ m. ⌜ m ≡ noNotes ⌝ }
 {
     [0u8; MOST_RECORDS + 2]
 }
@@ -41,7 +40,7 @@ fn mark_record(marks: &mut [u8], table: &[u8], i: RecordNumber)
 fn mark_records(marks: &mut [u8], table: &[u8])
     ensures { λ _. ⌜ now (marks .exit) ≡ fold (markedRecord (now (table .entry))) (now (marks .entry)) (records (now (table .entry))) ⌝ }
 {
-    let m = table.len() / RECORD_SIZE;
+    let m = diagrams::count_records(table);
     let mut i = 0;
     while i < m {
         mark_record(marks, table, RecordNumber(i));
@@ -59,7 +58,7 @@ fn mark_root(marks: &mut [u8], roots: &[u8], k: usize)
 fn mark_roots(marks: &mut [u8], roots: &[u8])
     ensures { λ _. ⌜ now (marks .exit) ≡ fold (markedRoot (now (roots .entry))) (now (marks .entry)) (rootCount (now (roots .entry))) ⌝ }
 {
-    let m = roots.len() / ROOT_SIZE;
+    let m = diagrams::count_roots(roots);
     let mut k = 0;
     while k < m {
         mark_root(marks, roots, k);
@@ -79,7 +78,7 @@ fn first_unmarked(table: &[u8], marks: &[u8]) -> usize
     requires { ⌜ (records (now table) + 2 ≤ length (now marks)) × (records (now table) ≤ mostRecords) ⌝ }
     ensures { λ x. ⌜ x ≡ first (unmarked (now (table .entry)) (now (marks .entry))) (records (now (table .entry))) ⌝ }
 {
-    let m = table.len() / RECORD_SIZE;
+    let m = diagrams::count_records(table);
     let mut i = 0;
     while i < m {
         if is_unmarked(table, marks, RecordNumber(i)) {

@@ -26,7 +26,7 @@ pub dead-says : (t : List ℕ) (x : ℕ) → Says (dead t x) (Dead t x)
 unfolding dead
 dead-says t x = search says
 
-names-says : (t : List ℕ) (x : ℕ) → Says (namesRecord t x) ((2 ≤ x) × (x - 2 < records t))
+pub names-says : (t : List ℕ) (x : ℕ) → Says (namesRecord t x) ((2 ≤ x) × (x - 2 < records t))
 unfolding namesRecord
 names-says t x = search says
 

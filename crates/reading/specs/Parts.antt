@@ -14,7 +14,7 @@ use Rattle.lists.specs.Apart.{apart}
 use Rattle.lists.specs.Says.{nowhere, either-side}
 use Rattle.diagrams.specs.Layout.{recordSize, mostRecords, records, rootCount, rootAt, InTable}
 use Rattle.diagrams.specs.Node.{Constant, ref}
-use Rattle.check_records.specs.Meaning.{root-says}
+use Rattle.check_roots.specs.Roots.{root-says}
 use Rattle.checks.specs.Stages.{verdictOf, clear-only, row-refuses, row-passes, place-refuses, place-passes}
 use Rattle.checks.specs.Check.{checkStages, used, answered, checkOf}
 use Rattle.checks.specs.Theorems.{accepts-only}

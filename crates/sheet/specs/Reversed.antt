@@ -1,6 +1,6 @@
--- Case I of the bench sheet, over orders alone. Cases A to H and J are the crate `sheet`.
+-- Case I of the bench sheet, over orders alone.
 use Prim.Native.Nat.{ℕ, _-_}
-use mathlib.Core.Bool.{true}
+use mathlib.Core.Bool.{Bool, true}
 use mathlib.Core.List.{List}
 use mathlib.Core.Path.{_≡_, refl}
 use Rattle.lists.specs.First.{first}
@@ -10,12 +10,13 @@ use Rattle.lists.specs.Tabulate.{tabulate}
 use Rattle.orders.specs.Permutation.{levelOf, holdsAt}
 use Rattle.orders.specs.Exchange.{exchange}
 use Rattle.plans.specs.Inversions.{left, inverted}
-use Rattle.plans.specs.Plans.{bringUp, nearest, same?, differsAt}
-use Rattle.slices.specs.Slices.{Relay, arrived, next, goes, made}
+use Rattle.plans.specs.Plans.{same?, differsAt}
+use Rattle.plans.specs.BringUp.{bringUp, nearest}
+use Rattle.slice_rules.specs.Slices.{Relay, arrived, next, goes, made}
 
--- an order alone, where every swap fits
-abbrev pub orderAlone : Relay (List ℕ)
-orderAlone = record { order = λ o. o; fits = λ o k. true; swapped = exchange }
+-- an order alone, where nothing stands in the way of a swap
+abbrev pub orderAlone : Relay (List ℕ) Bool
+orderAlone = record { order = λ o. o; way = λ o k. true; clear = λ w. w; swapped = exchange }
 
 -- I: 32 variables reversed: 496 swaps
 i-left : left (tabulate 32 (λ k. k)) (tabulate 32 (λ k. 31 - k)) ≡ 496

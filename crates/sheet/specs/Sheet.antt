@@ -1,4 +1,4 @@
--- Cases A to H and J of the bench sheet: "a single table of examples under one claim that covers every row". Each row is one run, over the bytes.
+-- Cases A to H and J of the bench sheet, and two rows of our own: one table of examples under one claim. Each row is one run, over the bytes.
 use Prim.Native.Nat.{ℕ, _/_, _%_}
 use mathlib.Core.List.{List, [], _∷_, map}
 use mathlib.Core.Path.{_≡_, refl}
@@ -17,15 +17,26 @@ use Rattle.orders.specs.Permutation.{holdsAt, levelOf}
 use Rattle.check_permutation.specs.BadPlace.{badPlace}
 use Rattle.orders.specs.Exchange.{exchange}
 use Rattle.plans.specs.Inversions.{inverted, left}
-use Rattle.plans.specs.Plans.{differsAt, same?, bringUp, nearest}
-use Rattle.check_records.specs.Tests.{badSizes, dead, malformed, notUnder, notBelow, lowIsHigh, sameRecord, repeats, deadRoot, rootNames, recordNames, idle}
+use Rattle.plans.specs.Plans.{differsAt, same?}
+use Rattle.plans.specs.BringUp.{bringUp, nearest}
+use Rattle.check_sizes.specs.Sizes.{badSizes}
+use Rattle.diagrams.specs.References.{dead}
+use Rattle.check_malformed.specs.Malformed.{malformed}
+use Rattle.check_levels.specs.Levels.{notUnder, notBelow}
+use Rattle.check_equal.specs.Equal.{lowIsHigh}
+use Rattle.check_repeats.specs.Repeats.{sameRecord, repeats}
+use Rattle.check_roots.specs.Roots.{deadRoot}
+use Rattle.diagrams.specs.Noting.{rootNames, recordNames}
+use Rattle.check_names.specs.Names.{idle}
 use Rattle.checks.specs.Stages.{only, verdictFrom}
 use Rattle.checks.specs.Check.{tableStages, used}
 use Rattle.swap_rules.specs.Record.{lowOf, highOf, isFreeNode, isOf, same}
-use Rattle.swap_rules.specs.Swap.{grandchild, f00, f01, f10, f11, crosses, asked, stands, isNew, wanted, news, stillNames, dies, slots, slotOf, X, becomes, needed, freeCount, fits, slotIndex, filled, recordAfter, swapped}
-use Rattle.swaps.specs.Outcome.{tableAfter}
-use Rattle.slices.specs.Slices as over
-use Rattle.slices.specs.Slices.{arrived, next, goes, made, slice}
+use Rattle.swap_rules.specs.Swap.{xAt, yAt, grandchild, f00, f01, f10, f11, crosses, asked, stands, isNew, wanted, news, stillNames, dies, slots, slotOf}
+use Rattle.swap_rules.specs.Swap.{X, becomes, needed, freeCount, fits, slotIndex, filled, recordAfter, swapped}
+use Rattle.swaps.specs.Outcome.{neededIn, wayOf, lack, tableAfter}
+use Rattle.slice_rules.specs.Slices as over
+use Rattle.slice_rules.specs.Slices.{arrived, next, goes, made, leaves, slice}
+use Rattle.slices.specs.OneSwap.{plainSwap}
 use Rattle.slices.specs.Run.{Ran, relay, badRunSizes, runStages, answerOf, ranTo, runOf}
 use Rattle.slices.specs.declared.RunAnswer.{RunAnswer}
 use Rattle.slices.specs.declared.RunAnswer.the-variants.{Done, NoRoom, Paused}
@@ -38,15 +49,17 @@ pub record Given : Type 0 where
   pub target : List ℕ
   pub budget : ℕ
 
--- its answer, the records and the order afterwards, and how many records are used then
+-- the new records that its first swap needs, its answer, the records and the order afterwards, and how many records are used then
 pub record Row : Type 0 where
   pub given : Given
+  pub needed : ℕ
   pub answer : RunAnswer
   pub records : List Node
   pub order : List ℕ
   pub used : ℕ
 
 pub record Outcome : Type 0 where
+  pub needed : ℕ
   pub ran : Ran
   pub used : ℕ
 
@@ -59,51 +72,83 @@ rootBytes (x ∷ s) = x % 256 ∷ x / 256 ∷ rootBytes s
 unfoldable pub outcome : Row → Outcome
 outcome row =
     let g = row .given in
-    let w = runOf (encode (g .records)) (rootBytes (g .roots)) (g .order) (g .target) (g .budget) in
-    record { ran = w; used = used (w .table) }
+    let k = bringUp (g .order) (g .target) in
+    let w = runOf plainSwap bringUp (encode (g .records)) (rootBytes (g .roots)) (g .order) (g .target) (g .budget) in
+    record { needed = neededIn (encode (g .records)) (xAt (g .order) k) (yAt (g .order) k); ran = w; used = used (w .table) }
 
 -- what the sheet says
 unfoldable pub expected : Row → Outcome
-expected row = record { ran = record { answer = row .answer; table = encode (row .records); order = row .order }; used = row .used }
+expected row =
+    record { needed = row .needed; ran = record { answer = row .answer; table = encode (row .records); order = row .order }; used = row .used }
 
--- order 0 1, target 1 0
-unfoldable pub swap : List Node → List ℕ → ℕ → RunAnswer → List Node → List ℕ → ℕ → Row
-swap t r b a t′ o u = record { given = record { records = t; roots = r; order = 0 ∷ 1 ∷ []; target = 1 ∷ 0 ∷ []; budget = b }; answer = a; records = t′; order = o; used = u }
+-- order 0 1, target 1 0: records, roots, budget; needed, answer, records, order and used records afterwards
+unfoldable pub swap : List Node → List ℕ → ℕ → ℕ → RunAnswer → List Node → List ℕ → ℕ → Row
+swap t r b n a t′ o u =
+    let g = record { records = t; roots = r; order = 0 ∷ 1 ∷ []; target = 1 ∷ 0 ∷ []; budget = b } in
+    record { given = g; needed = n; answer = a; records = t′; order = o; used = u }
 
 -- no records, no roots
 unfoldable pub orders : List ℕ → List ℕ → ℕ → RunAnswer → List ℕ → Row
-orders o g b a o′ = record { given = record { records = []; roots = []; order = o; target = g; budget = b }; answer = a; records = []; order = o′; used = 0 }
+orders o g b a o′ =
+    record { given = record { records = []; roots = []; order = o; target = g; budget = b }; needed = 0; answer = a; records = []; order = o′; used = 0 }
 
 unfoldable pub rows : List Row
 rows =
     -- A
-    swap (node 1 0 1 ∷ node 0 0 2 ∷ free ∷ []) (3 ∷ []) 1 (Done 1 0) (free ∷ node 1 0 4 ∷ node 0 0 1 ∷ []) (1 ∷ 0 ∷ []) 2
+    swap (node 1 0 1 ∷ node 0 0 2 ∷ free ∷ []) (3 ∷ []) 1
+    1 (Done 1 0) (free ∷ node 1 0 4 ∷ node 0 0 1 ∷ []) (1 ∷ 0 ∷ []) 2
     -- B: A with only records 0 and 1
-    ∷ swap (node 1 0 1 ∷ node 0 0 2 ∷ []) (3 ∷ []) 1 (NoRoom 0 1 0 1 0) (node 1 0 1 ∷ node 0 0 2 ∷ []) (0 ∷ 1 ∷ []) 2
-    -- C: A with roots 3 and 2: record 0 stays; three used
-    ∷ swap (node 1 0 1 ∷ node 0 0 2 ∷ free ∷ []) (3 ∷ 2 ∷ []) 1 (Done 1 0) (node 1 0 1 ∷ node 1 0 4 ∷ node 0 0 1 ∷ []) (1 ∷ 0 ∷ []) 3
-    -- D: none free, needed 0
-    ∷ swap (node 1 0 1 ∷ node 0 0 2 ∷ node 0 0 1 ∷ []) (3 ∷ 4 ∷ []) 1 (Done 1 0) (free ∷ node 1 0 4 ∷ node 0 0 1 ∷ []) (1 ∷ 0 ∷ []) 2
-    -- E: a swap alters the order only
-    ∷ swap (node 0 0 1 ∷ node 1 0 1 ∷ []) (2 ∷ 3 ∷ []) 1 (Done 1 0) (node 0 0 1 ∷ node 1 0 1 ∷ []) (1 ∷ 0 ∷ []) 2
+    ∷ swap (node 1 0 1 ∷ node 0 0 2 ∷ []) (3 ∷ []) 1
+    1 (NoRoom 0 1 (lack 0 1 0)) (node 1 0 1 ∷ node 0 0 2 ∷ []) (0 ∷ 1 ∷ []) 2
+    -- C: A with roots 3 and 2: record 0 stays
+    ∷ swap (node 1 0 1 ∷ node 0 0 2 ∷ free ∷ []) (3 ∷ 2 ∷ []) 1
+    1 (Done 1 0) (node 1 0 1 ∷ node 1 0 4 ∷ node 0 0 1 ∷ []) (1 ∷ 0 ∷ []) 3
+    -- D: none is free, and none is needed
+    ∷ swap (node 1 0 1 ∷ node 0 0 2 ∷ node 0 0 1 ∷ []) (3 ∷ 4 ∷ []) 1
+    0 (Done 1 0) (free ∷ node 1 0 4 ∷ node 0 0 1 ∷ []) (1 ∷ 0 ∷ []) 2
+    -- E: the order alone is altered
+    ∷ swap (node 0 0 1 ∷ node 1 0 1 ∷ []) (2 ∷ 3 ∷ []) 1
+    0 (Done 1 0) (node 0 0 1 ∷ node 1 0 1 ∷ []) (1 ∷ 0 ∷ []) 2
     -- F: exclusive or; and with one record fewer
-    ∷ swap (node 1 0 1 ∷ node 1 1 0 ∷ node 0 2 3 ∷ free ∷ free ∷ []) (4 ∷ []) 1 (Done 1 0) (free ∷ free ∷ node 1 5 6 ∷ node 0 0 1 ∷ node 0 1 0 ∷ []) (1 ∷ 0 ∷ []) 3
-    ∷ swap (node 1 0 1 ∷ node 1 1 0 ∷ node 0 2 3 ∷ free ∷ []) (4 ∷ []) 1 (NoRoom 0 1 0 2 1) (node 1 0 1 ∷ node 1 1 0 ∷ node 0 2 3 ∷ free ∷ []) (0 ∷ 1 ∷ []) 3
-    -- G: by way of 0 2 1 and 2 0 1; budget 2 gives paused, left 1
+    ∷ swap (node 1 0 1 ∷ node 1 1 0 ∷ node 0 2 3 ∷ free ∷ free ∷ []) (4 ∷ []) 1
+    2 (Done 1 0) (free ∷ free ∷ node 1 5 6 ∷ node 0 0 1 ∷ node 0 1 0 ∷ []) (1 ∷ 0 ∷ []) 3
+    ∷ swap (node 1 0 1 ∷ node 1 1 0 ∷ node 0 2 3 ∷ free ∷ []) (4 ∷ []) 1
+    2 (NoRoom 0 1 (lack 0 2 1)) (node 1 0 1 ∷ node 1 1 0 ∷ node 0 2 3 ∷ free ∷ []) (0 ∷ 1 ∷ []) 3
+    -- two crossing records that ask for the same new one: it is made for the lower and serves the other
+    ∷ swap (node 1 0 1 ∷ node 0 0 2 ∷ node 0 2 1 ∷ free ∷ []) (3 ∷ 4 ∷ []) 1
+    1 (Done 1 0) (free ∷ node 1 0 5 ∷ node 1 5 1 ∷ node 0 0 1 ∷ []) (1 ∷ 0 ∷ []) 3
+    -- two that ask for different ones: the lower record's goes to the lower free record
+    ∷ swap (node 1 0 1 ∷ node 0 0 2 ∷ node 0 1 2 ∷ free ∷ free ∷ []) (3 ∷ 4 ∷ []) 1
+    2 (Done 1 0) (free ∷ node 1 0 5 ∷ node 1 6 1 ∷ node 0 0 1 ∷ node 0 1 0 ∷ []) (1 ∷ 0 ∷ []) 4
+    -- G: each order on the way
     ∷ orders (0 ∷ 1 ∷ 2 ∷ []) (2 ∷ 1 ∷ 0 ∷ []) 1 (Paused 1 2) (0 ∷ 2 ∷ 1 ∷ [])
     ∷ orders (0 ∷ 1 ∷ 2 ∷ []) (2 ∷ 1 ∷ 0 ∷ []) 2 (Paused 2 1) (2 ∷ 0 ∷ 1 ∷ [])
     ∷ orders (0 ∷ 1 ∷ 2 ∷ []) (2 ∷ 1 ∷ 0 ∷ []) 9 (Done 3 0) (2 ∷ 1 ∷ 0 ∷ [])
-    -- H: three swaps, by way of 1 0 2 3 and 1 0 3 2
+    -- H: each order on the way
     ∷ orders (0 ∷ 1 ∷ 2 ∷ 3 ∷ []) (1 ∷ 3 ∷ 0 ∷ 2 ∷ []) 1 (Paused 1 2) (1 ∷ 0 ∷ 2 ∷ 3 ∷ [])
     ∷ orders (0 ∷ 1 ∷ 2 ∷ 3 ∷ []) (1 ∷ 3 ∷ 0 ∷ 2 ∷ []) 2 (Paused 2 1) (1 ∷ 0 ∷ 3 ∷ 2 ∷ [])
     ∷ orders (0 ∷ 1 ∷ 2 ∷ 3 ∷ []) (1 ∷ 3 ∷ 0 ∷ 2 ∷ []) 9 (Done 3 0) (1 ∷ 3 ∷ 0 ∷ 2 ∷ [])
-    -- J: budget 0 in A is paused, in B no room, with order equal to target done
-    ∷ swap (node 1 0 1 ∷ node 0 0 2 ∷ free ∷ []) (3 ∷ []) 0 (Paused 0 1) (node 1 0 1 ∷ node 0 0 2 ∷ free ∷ []) (0 ∷ 1 ∷ []) 2
-    ∷ swap (node 1 0 1 ∷ node 0 0 2 ∷ []) (3 ∷ []) 0 (NoRoom 0 1 0 1 0) (node 1 0 1 ∷ node 0 0 2 ∷ []) (0 ∷ 1 ∷ []) 2
+    -- J: budget 0 in A, in B, and with the order equal to the target
+    ∷ swap (node 1 0 1 ∷ node 0 0 2 ∷ free ∷ []) (3 ∷ []) 0
+    1 (Paused 0 1) (node 1 0 1 ∷ node 0 0 2 ∷ free ∷ []) (0 ∷ 1 ∷ []) 2
+    ∷ swap (node 1 0 1 ∷ node 0 0 2 ∷ []) (3 ∷ []) 0
+    1 (NoRoom 0 1 (lack 0 1 0)) (node 1 0 1 ∷ node 0 0 2 ∷ []) (0 ∷ 1 ∷ []) 2
     ∷ orders (1 ∷ 0 ∷ []) (1 ∷ 0 ∷ []) 0 (Done 0 0) (1 ∷ 0 ∷ [])
     ∷ []
 
 -- every row comes out as the sheet has it
 pub sheet : map outcome rows ≡ map expected rows
-unfolding outcome expected rows swap orders rootBytes nodeAt decode eight encode rootsOf runOf runStages badRunSizes badSizes only verdictFrom holdsAt badPlace levelOf tableStages dead malformed notUnder notBelow lowIsHigh sameRecord repeats deadRoot rootNames recordNames idle ranTo answerOf relay slice over.after over.judge made goes next arrived same? differsAt bringUp nearest exchange left inverted pairs total first count tabulate keep once each which look lowOf highOf isFreeNode isOf same grandchild f00 f01 f10 f11 crosses asked stands isNew wanted news stillNames dies slots slotOf X becomes needed freeCount fits slotIndex filled recordAfter swapped tableAfter
+unfolding outcome expected rows swap orders rootBytes
+
+unfolding nodeAt decode eight encode rootsOf runOf runStages badRunSizes badSizes only verdictFrom holdsAt badPlace levelOf
+
+unfolding tableStages dead malformed notUnder notBelow lowIsHigh sameRecord repeats deadRoot rootNames recordNames idle
+
+unfolding ranTo answerOf relay slice leaves over.judge made goes next arrived same? differsAt bringUp nearest exchange left inverted pairs total
+
+unfolding first count tabulate keep once each which look lowOf highOf isFreeNode isOf same
+
+unfolding grandchild f00 f01 f10 f11 crosses asked stands isNew wanted news stillNames dies slots slotOf X becomes needed freeCount fits slotIndex filled
+
+unfolding recordAfter swapped wayOf tableAfter
 sheet = refl

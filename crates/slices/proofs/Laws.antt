@@ -23,8 +23,7 @@ use Rattle.plans.specs.BringUp.{bringUp, bring-up-lawful}
 use Rattle.plans.specs.Towards.{arranged-adjacent}
 use Rattle.slice_rules.specs.Slices as over
 use Rattle.slice_rules.specs.Slices.{slicing-begins, slicing-goes, slicing-rests, slicing-ends}
-use Rattle.check_records.specs.Meaning.{Sized, sized}
-use Rattle.check_records.specs.Tests.{badSizes}
+use Rattle.check_sizes.specs.Sizes.{Sized, sized, badSizes}
 use Rattle.checks.specs.Stages.{verdictOf, clear-only, chain}
 use Rattle.checks.specs.declared.Refusal.{Refusal}
 use Rattle.checks.specs.declared.Verdict.{Verdict}

@@ -10,8 +10,7 @@ use Rattle.diagrams.specs.Lookup.{lookup}
 use Rattle.diagrams.specs.Value.{value}
 use Rattle.orders.specs.Permutation.{Permutation}
 use Rattle.orders.specs.Exchange.{exchange}
-use Rattle.check_records.specs.Tests.{badSizes}
-use Rattle.check_records.specs.Meaning.{Sizes}
+use Rattle.check_sizes.specs.Sizes.{badSizes, Sizes}
 use Rattle.checks.specs.Stages.{Stage, stageAt, AllPass, also}
 use Rattle.checks.specs.Check as check
 use Rattle.checks.specs.Check.{orderStage, checkStages}

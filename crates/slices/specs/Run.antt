@@ -13,7 +13,7 @@ use Rattle.plans.specs.Plans.{Plan}
 use Rattle.plans.specs.Inversions.{left}
 use Rattle.slice_rules.specs.Slices as over
 use Rattle.slice_rules.specs.Slices.{Relay, Judgement, done, meets, SliceOf}
-use Rattle.check_records.specs.Tests.{badSizes}
+use Rattle.check_sizes.specs.Sizes.{badSizes}
 use Rattle.checks.specs.Stages.{Stage, stageAt, verdictOf}
 use Rattle.checks.specs.Check.{orderStage}
 use Rattle.checks.specs.declared.Verdict.{Verdict}

@@ -19,8 +19,7 @@ use Rattle.plans.specs.Inversions.{left, left-same}
 use Rattle.plans.specs.Plans.{Plan, Lawful, reached}
 use Rattle.slice_rules.specs.Slices as over
 use Rattle.slice_rules.specs.Slices.{Relay, RelayLaws, done, meets}
-use Rattle.check_records.specs.Meaning.{Sizes, sizes-if, sizes-then}
-use Rattle.check_records.specs.Tests.{badSizes}
+use Rattle.check_sizes.specs.Sizes.{Sizes, sizes-if, sizes-then, badSizes}
 use Rattle.checks.specs.Stages.{AllPass, also, only-passed, passed-only, FailsFirst, refusal, verdictOf, clear-if, clear-only, refused-if, refused-only}
 use Rattle.checks.specs.declared.Refusal.{Refusal}
 use Rattle.checks.specs.declared.Verdict.{Verdict}

@@ -2,7 +2,7 @@
 ghost use mathlib.Core.Path.{_≡_};
 ghost use Rattle.orders.specs.Arranged.{Arranged};
 ghost use Rattle.plans.specs.BringUp.{bringUp};
-ghost use Rattle.check_records.specs.Meaning.{Sized};
+ghost use Rattle.check_sizes.specs.Sizes.{Sized};
 ghost use Rattle.checks.specs.Stages.{verdictOf};
 ghost use Rattle.slices.specs.OneSwap.{plainSwap};
 ghost use Rattle.slices.specs.Run.{badRunSizes, runStages, Stepped, Driven, judgedOn, RunOutcome};
@@ -48,7 +48,7 @@ pub struct Reached {
 fn bad_run_sizes(table: &[u8], roots: &[u8], order: &[u8], target: &[u8]) -> bool
     ensures { λ b. ⌜ b ≡ badRunSizes (now (table .entry)) (now (roots .entry)) (now (order .entry)) (now (target .entry)) ⌝ }
 {
-    checks::sizes::bad_sizes(table, roots, order) | !(target.len() == order.len())
+    check_sizes::bad_sizes(table, roots, order) | !(target.len() == order.len())
 }
 
 fn verdict_of_run(table: &[u8], roots: &[u8], order: &[u8], target: &[u8]) -> Verdict

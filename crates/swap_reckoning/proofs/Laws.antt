@@ -14,7 +14,7 @@ use Rattle.lists.specs.Fold.{fold, Steps}
 use Rattle.diagrams.specs.Layout.{mostRecords, records, rootCount, rootAt, lowAt, highAt, isUsed}
 use Rattle.diagrams.specs.Node.{ref}
 use Rattle.diagrams.specs.Lookup.{lookup}
-use Rattle.check_records.specs.Meaning.{Sized}
+use Rattle.check_sizes.specs.Sizes.{Sized}
 use Rattle.swap_rules.specs.Record.{isOf}
 use Rattle.swap_records.specs.Grands.{Grands}
 use Rattle.swap_records.specs.declared.Grandchildren.{Grandchildren}

@@ -19,8 +19,7 @@ use Rattle.diagrams.specs.Layout.{mostRecords, records, rootCount, rootAt, vari
 use Rattle.diagrams.specs.Node.{free, node, at, ref, two-more}
 use Rattle.diagrams.specs.Decode.{nodeAt, decode}
 use Rattle.diagrams.specs.Lookup.{lookup, at-decode, rootsOf, length-roots, root-is}
-use Rattle.check_records.specs.Tests.{rootNames}
-use Rattle.check_names.specs.Marks.{roots-long, roots-has, records-long, records-has, length-no-marks, none-marked}
+use Rattle.diagrams.specs.Noting.{rootNames, length-no-notes, no-note, roots-long, roots-has, records-long, records-has}
 use Rattle.diagrams.specs.Edition.{plain}
 use Rattle.swap_rules.specs.Record.{lowOf, highOf, isFreeNode}
 use Rattle.swap_rules.specs.Swap.{crosses, stillNames, dies}
@@ -76,7 +75,7 @@ pub entry-step : (t standing l : List ℕ) (k n : ℕ) → Countable l (n + 2) �
 entry-step t standing l k n c = countable-both t (getD standing k 0) c
 
 none-named : (q : ℕ) → getD noNames q 0 ≡ 0
-none-named q = either-side q (mostRecords + 2) (none-marked q) (λ h. List·getD-eq-default noNames 0 (rw length-no-marks h))
+none-named q = either-side q (mostRecords + 2) (no-note q) (λ h. List·getD-eq-default noNames 0 (rw length-no-notes h))
 
 pub countable-none : Countable noNames 65535
 countable-none = record { at = λ q. omega (arith, none-named q) }
@@ -144,7 +143,7 @@ module _ (t : List ℕ) (x y : ℕ) where
 
     by-roots-long : length byRoots ≡ mostRecords + 2
     unfolding byRoots
-    by-roots-long = roots-long named has name-long name-has r noNames (rootCount r) ∙ length-no-marks
+    by-roots-long = roots-long named has name-long name-has r noNames (rootCount r) ∙ length-no-notes
 
     by-others-long : length byOthers ≡ mostRecords + 2
     unfolding byOthers namedOther
@@ -152,7 +151,7 @@ module _ (t : List ℕ) (x y : ℕ) where
 
     roots-say : (q : ℕ) → q < mostRecords + 2 → has byRoots q ≡ any (rootNames r q) (rootCount r)
     unfolding byRoots
-    roots-say q h = roots-has named has name-long name-has r noNames (rootCount r) q (rw length-no-marks h) ∙ ap (λ v. not (eqb v 0) || any (rootNames r q) (rootCount r)) (none-named q)
+    roots-say q h = roots-has named has name-long name-has r noNames (rootCount r) q (rw length-no-notes h) ∙ ap (λ v. not (eqb v 0) || any (rootNames r q) (rootCount r)) (none-named q)
 
     others-say : (q : ℕ) → q < mostRecords + 2 → has byOthers q ≡ (any (rootNames r q) (rootCount r) || any (λ i. other i && says t q i) (records t))
     unfolding byOthers namedOther

@@ -13,7 +13,7 @@ use Rattle.diagrams.specs.Layout.{records, rootCount, rootAt, lowAt, highAt, is
 use Rattle.diagrams.specs.Node.{Node, free, node, ref}
 use Rattle.diagrams.specs.Decode.{nodeAt}
 use Rattle.diagrams.specs.Lookup.{lookup}
-use Rattle.check_names.specs.Marks.{noMarks}
+use Rattle.diagrams.specs.Noting.{noNotes}
 use Rattle.swap_rules.specs.Swap.{f00, f01, f10, f11}
 use Rattle.swap_records.specs.Kinds.{ofAt, crossesAt}
 
@@ -72,7 +72,7 @@ unfoldable pub namedOther : List ℕ → ℕ → List ℕ → ℕ → List ℕ
 namedOther t x l i = cond (isUsed t i && not (ofAt t x i)) (namedBy t l i) l
 
 abbrev pub noNames : List ℕ
-noNames = noMarks
+noNames = noNotes
 
 -- by the roots, by records of other variables than x, and by the x records that stand
 unfoldable pub namesOf : List ℕ → List ℕ → ℕ → List ℕ → ℕ → List ℕ

@@ -5,7 +5,7 @@ ghost use lib.ListN.{length};
 ghost use Rattle.lists.specs.Entries.{through};
 ghost use Rattle.lists.specs.Fold.{fold};
 ghost use Rattle.diagrams.specs.Layout.{records, rootCount, InTable};
-ghost use Rattle.check_records.specs.Meaning.{Sized};
+ghost use Rattle.check_sizes.specs.Sizes.{Sized};
 ghost use Rattle.swap_records.specs.Inside.{Inside};
 ghost use Rattle.swap_reckoning.specs.Reckoning.{named, namedRoot, namedBy, namedOther, noNames, namesOf, unnamed};
 ghost use Rattle.swap_reckoning.specs.Naming.{Countable};

@@ -14,7 +14,7 @@ use Rattle.lists.specs.Once.{once-short}
 use Rattle.diagrams.specs.Layout.{recordSize, mostRecords, records}
 use Rattle.diagrams.specs.Node.{Node, at}
 use Rattle.diagrams.specs.Decode.{decode}
-use Rattle.check_records.specs.Meaning.{Sizes, sizes-if}
+use Rattle.check_sizes.specs.Sizes.{Sizes, sizes-if}
 use Rattle.checks.specs.Stages.{AllPass, also, stageAt, verdictOf, passed-only, clear-only}
 use Rattle.checks.specs.Check.{checkStages}
 use Rattle.checks.specs.Theorems.{Bounded, refusal-small}
@@ -34,13 +34,13 @@ module _ (T : ℕ → Node) (N x y : ℕ) where
       let crossers : List ℕ = which (crossing plain T x y) N in
       omega (arith, each-length (bothAsked plain T x y) 2 (λ i. refl) crossers, which-length (crossing plain T x y) N, count-small (crossing plain T x y) N)
 
-  pub needed-small : needed plain T N x y ≤ 2 * N
+  needed-small : needed plain T N x y ≤ 2 * N
   unfolding needed news
   needed-small =
       let made : List Node = keep (isNew plain T N x y) (wanted plain T N x y) in
       omega (arith, once-short same made, keep-short (isNew plain T N x y) (wanted plain T N x y), wanted-small)
 
-pub free-small : (T : ℕ → Node) (N : ℕ) → freeCount T N ≤ N
+free-small : (T : ℕ → Node) (N : ℕ) → freeCount T N ≤ N
 unfolding freeCount
 free-small T N = count-small (λ i. isFreeNode (T i)) N
 

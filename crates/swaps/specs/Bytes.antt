@@ -23,7 +23,7 @@ use Rattle.diagrams.specs.Diagram.{Named, Diagram}
 use Rattle.diagrams.specs.Reduced.{diagram-of, look-ends}
 use Rattle.diagrams.specs.Value.{value, Value}
 use Rattle.checks.specs.Check.{used, checkOf}
-use Rattle.check_records.specs.Meaning.{NamedByRoot, NamedByRecord}
+use Rattle.check_names.specs.Names.{NamedByRoot, NamedByRecord}
 use Rattle.checks.specs.Usable.{Usable, by-root, root-by, by-record, record-by}
 use Rattle.checks.specs.Theorems.{accepts}
 use Rattle.checks.specs.declared.CheckAnswer.the-variants.{Accepted}
@@ -47,10 +47,10 @@ module _ (t r : List ℕ) (x y : ℕ) where
       length-encode (swapped plain (decode t) x y (rootsOf r))
       ∙ ap (λ n. recordSize * n) (length-swapped plain (decode t) x y (rootsOf r) ∙ length-decode t)
 
-  pub records-after : records (tableAfter t r x y) ≡ records t
+  records-after : records (tableAfter t r x y) ≡ records t
   records-after = omega (arith, bytes-of)
 
-  pub length-after : length t % recordSize ≡ 0 → length (tableAfter t r x y) ≡ length t
+  length-after : length t % recordSize ≡ 0 → length (tableAfter t r x y) ≡ length t
   length-after whole = omega (arith, bytes-of)
 
 -- ---- the used and the free records, in the bytes and in the records
@@ -63,7 +63,7 @@ free-at t i b = go (isFree t i) ∙ ap isFreeNode (sym (at-decode t i b))
     go true = refl
     go false = refl
 
-pub used-is : (t : List ℕ) → used t ≡ usedCount (at (decode t)) (records t)
+used-is : (t : List ℕ) → used t ≡ usedCount (at (decode t)) (records t)
 unfolding usedCount
 used-is t = count-agrees (λ i. isUsedNode (at (decode t) i)) (isUsed t) (records t) (λ i b. ap not (free-at t i b))
 
@@ -112,7 +112,7 @@ module _ (t r o : List ℕ) (k : ℕ) (usable : Usable t r o) (level : k + 1 < l
   variable-small : (q : ℕ) {v l h : ℕ} → look (at S) q ≡ node v l h → v < 255
   variable-small q {v} e = omega (arith, inside-level (exchange o k) v exchanged (again .graph .indexed q e), length-exchange o k, usable .sizes .few-variables)
 
-  pub swapped-small : AllSmall S
+  swapped-small : AllSmall S
   unfolding look
   swapped-small i b = go (at S i) refl
     where
@@ -123,7 +123,7 @@ module _ (t r o : List ℕ) (k : ℕ) (usable : Usable t r o) (level : k + 1 < l
 
   -- ---- the table afterwards
 
-  pub decode-after : decode t′ ≡ S
+  decode-after : decode t′ ≡ S
   unfolding tableAfter
   decode-after = decode-encode S swapped-small
 

@@ -4,7 +4,7 @@ ghost use mathlib.Core.Path.{_≡_};
 ghost use Prim.Native.Nat.{_+_, _*_, _%_, _≤_, _<_};
 ghost use lib.ListN.{length, take};
 ghost use Rattle.diagrams.specs.Layout.{mostRecords, recordSize};
-ghost use Rattle.check_records.specs.Meaning.{Sized};
+ghost use Rattle.check_sizes.specs.Sizes.{Sized};
 ghost use Rattle.orders.specs.Permutation.{ceiling};
 ghost use Rattle.checks.specs.Stages.{verdictOf};
 ghost use Rattle.swaps.specs.Outcome.{wayOf, TableSwapped, swapStages, SwapOutcome};

@@ -10,6 +10,7 @@ first-unmarked-spec =
     (tie.spec
     (λ table marks m i₀ i. Scan (unmarked table marks) m i)
     (λ table marks m i₀ i. m - i)
+    (λ c κs. search scan)
     (λ c. search scan)
     (λ c κs. search scan)
     (λ c. search scan)

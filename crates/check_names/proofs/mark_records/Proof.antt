@@ -12,6 +12,7 @@ mark-records-spec =
     (tie.spec
     (λ marks₀ table m i₀ marks i. Steps (markedRecord table) marks₀ m i marks × (length marks ≡ length marks₀))
     (λ marks₀ table m i₀ marks i. m - i)
+    (λ c κs. search steps)
     (λ c. search steps)
     (λ c κs. search steps)
     (λ c. search steps)

@@ -12,6 +12,7 @@ mark-roots-spec =
     (tie.spec
     (λ marks₀ roots m k₀ marks k. Steps (markedRoot roots) marks₀ m k marks × (length marks ≡ length marks₀))
     (λ marks₀ roots m k₀ marks k. m - k)
+    (λ c κs. search steps)
     (λ c. search steps)
     (λ c κs. search steps)
     (λ c. search steps)

@@ -1,8 +1,8 @@
 use borrow.Author.Needs.{needs}
-use Rattle.check_names.specs.Marks.{noMarks}
+use Rattle.diagrams.specs.Noting.{noNotes}
 use Rattle.swap_reckoning.proofs.names.no_names.Statement.{statement}
 use Rattle.swap_reckoning.proofs.names.no_names.Tie as tie
 
 pub no-names-spec : {M : Type 1} → statement M
-unfolding noMarks
+unfolding noNotes
 no-names-spec = tie.close (tie.spec (λ c. search needs))

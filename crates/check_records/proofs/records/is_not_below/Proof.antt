@@ -1,8 +1,0 @@
-use borrow.Author.Needs.{needs}
-use Rattle.check_records.specs.Tests.{notBelow}
-use Rattle.check_records.proofs.records.is_not_below.Statement.{statement}
-use Rattle.check_records.proofs.records.is_not_below.Tie as tie
-
-pub is-not-below-spec : {M : Type 1} → statement M
-unfolding notBelow
-is-not-below-spec = tie.close (tie.spec (λ c κs. search needs) (λ c κs. search needs) (λ c κs. search needs) (λ c κs. search needs) (λ c κs. search needs) (λ c κs. search needs) (λ c κs. search needs) (λ c. cc))
