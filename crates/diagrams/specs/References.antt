@@ -19,6 +19,7 @@ namesRecord t x = leb 2 x && ltb (x - 2) (records t)
 unfoldable pub dead : List ℕ → ℕ → Bool
 dead t x = leb 2 x && (leb (records t) (x - 2) || isFree t (x - 2))
 
+-- the same as a fact
 abbrev pub Dead : List ℕ → ℕ → Type 0
 Dead t x = (2 ≤ x) × ((records t ≤ x - 2) ⊎ (variableAt t (x - 2) ≡ 255))
 

@@ -20,7 +20,7 @@ use Rattle.plans.specs.Inversions.{inverted, left}
 use Rattle.plans.specs.Plans.{differsAt, same?}
 use Rattle.plans.specs.BringUp.{bringUp, nearest}
 use Rattle.check_sizes.specs.Sizes.{badSizes}
-use Rattle.diagrams.specs.References.{dead}
+use Rattle.diagrams.specs.References.{namesRecord, dead}
 use Rattle.check_malformed.specs.Malformed.{malformed}
 use Rattle.check_levels.specs.Levels.{notUnder, notBelow}
 use Rattle.check_equal.specs.Equal.{lowIsHigh}
@@ -68,8 +68,13 @@ unfoldable pub rootBytes : List ℕ → List ℕ
 rootBytes [] = []
 rootBytes (x ∷ s) = x % 256 ∷ x / 256 ∷ rootBytes s
 
--- what the run gives, by the definition in its contract
+-- what the run gives, by the definition in its contract; `unfolding outcome` opens all that a run is computed with
 unfoldable pub outcome : Row → Outcome
+unfolding nodeAt decode eight encode rootsOf runOf runStages badRunSizes badSizes only verdictFrom holdsAt badPlace levelOf tableStages dead malformed
+    notUnder notBelow lowIsHigh sameRecord repeats deadRoot rootNames recordNames idle ranTo answerOf relay slice leaves over.judge made goes next arrived
+    same? differsAt bringUp nearest exchange left inverted pairs total first count tabulate keep once each which look lowOf highOf isFreeNode isOf same
+    grandchild f00 f01 f10 f11 crosses asked stands isNew wanted news stillNames dies slots slotOf X becomes needed freeCount fits slotIndex filled recordAfter swapped
+    wayOf tableAfter namesRecord
 outcome row =
     let g = row .given in
     let k = bringUp (g .order) (g .target) in
@@ -139,16 +144,4 @@ rows =
 -- every row comes out as the sheet has it
 pub sheet : map outcome rows ≡ map expected rows
 unfolding outcome expected rows swap orders rootBytes
-
-unfolding nodeAt decode eight encode rootsOf runOf runStages badRunSizes badSizes only verdictFrom holdsAt badPlace levelOf
-
-unfolding tableStages dead malformed notUnder notBelow lowIsHigh sameRecord repeats deadRoot rootNames recordNames idle
-
-unfolding ranTo answerOf relay slice leaves over.judge made goes next arrived same? differsAt bringUp nearest exchange left inverted pairs total
-
-unfolding first count tabulate keep once each which look lowOf highOf isFreeNode isOf same
-
-unfolding grandchild f00 f01 f10 f11 crosses asked stands isNew wanted news stillNames dies slots slotOf X becomes needed freeCount fits slotIndex filled
-
-unfolding recordAfter swapped wayOf tableAfter
 sheet = refl

@@ -43,7 +43,7 @@ fn fresh(news: &[u16], x: Variable, k: usize) -> Fields
 {
     let low = Reference(collect::wide(news[2 * k]));
     let high = Reference(collect::wide(news[2 * k + 1]));
-    Fields::used(x, low, high)
+    Fields::new(x, low, high)
 }
 
 // A crossing record becomes a y record with low X(f00, f10) and high X(f01, f11).
@@ -82,7 +82,7 @@ fn crossed(
         g.f01,
         g.f11,
     );
-    Fields::used(y, low, high)
+    Fields::new(y, low, high)
 }
 
 // ---- the image: the table, and over it what dies, what is new and what crosses

@@ -17,5 +17,5 @@ verdict-of-run-spec =
     (λ c. search refusing depth 12)
     (λ c κs. search needs)
     (λ c. search refusing depth 12)
-    (λ c κs. (sizes-right _ _ _ _ (c .before .before .before .before .before .bad-run-sizes .ensures) (c .before .before .before .before .if1 .left), passed-all _ _ (c .before .before .before .first-bad-place .ensures) (omega arith)))
+    (λ c κs. search (refusing, needs))
     (λ c. search refusing depth 12))

@@ -17,4 +17,4 @@ fresh-spec =
     (λ c. search needs)
     (λ c κs. search needs)
     (λ c κs. search needs)
-    (λ c. (laid-as _ _ (c .before .before .before .wide .ensures .0) (c .before .wide2 .ensures .0) (c .used .ensures .0), c .used .ensures .1)))
+    (λ c. (laid-as _ _ (c .before .before .before .wide .ensures .0) (c .before .wide2 .ensures .0) (c .new .ensures .0), c .new .ensures .1)))
