@@ -39,14 +39,14 @@ module _ (t : List ℕ) (x : ℕ) {b : Bool} (flag : b ≡ namesRecord t x) wher
     pub from-two : 2 ≤ x
     from-two = names-says t x .yes (sym flag ∙ holds) .0
 
-    number-small : x - 2 < records t
+    pub number-small : x - 2 < records t
     number-small = names-says t x .yes (sym flag ∙ holds) .1
 
     pub number-inside : {i : ℕ} → i ≡ x - 2 → InTable t i
     number-inside e = omega (arith, number-small)
 
   -- it doesn't: a constant, or past the table
-  not-inside : b ≡ false → 2 ≤ x → records t ≤ x - 2
+  pub not-inside : b ≡ false → 2 ≤ x → records t ≤ x - 2
   not-inside e h = either-side (x - 2) (records t) (λ l. absurd (refutes (names-says t x) (sym flag ∙ e) (h, l))) (λ l. l)
 
 pub ruleset naming = (from-two, number-inside, needs)

@@ -1,8 +1,8 @@
 -- What a record holds: one law for each way out, over plain variables.
 use Prim.Native.Nat.{ℕ}
-use mathlib.Core.Bool.{Bool, true, false, cond}
+use mathlib.Core.Bool.{Bool, true, false}
 use mathlib.Core.List.{List}
-use mathlib.Core.Path.{_≡_, ap, sym, _∙_}
+use mathlib.Core.Path.{_≡_}
 use borrow.Author.Needs.{needs}
 use Rattle.diagrams.specs.Layout.{variableAt, lowAt, highAt, isFree}
 use Rattle.texts.specs.Text.{bytes}

@@ -6,7 +6,7 @@ use mir.Syntax.{w8}
 use mir.Val.{Fits}
 use lib.Dec.{lit≤}
 use lib.ListN.{length, getD}
-use Rattle.diagrams.specs.Layout.{mostRecords, records, rootCount, variableAt, lowAt, highAt, rootAt, isFree, pairAt}
+use Rattle.diagrams.specs.Layout.{mostRecords, records, rootCount, rootAt, isFree, pairAt}
 use Rattle.texts.specs.Text.{bytes}
 use Rattle.texts.specs.Short.{Short, short, both-short, either-short, turns-short, word-short, decimal-short, numbered-short}
 use Rattle.listing.specs.Text.{variableText, orderLine, fieldsText, contentText, recordLine, rootText, rootsLine, listing}

@@ -1,7 +1,7 @@
 -- A file over its limit is refusal 1, and so is an odd number of root bytes. So the program need not read a file further than one byte past its
 -- limit.
 use Prim.Native.Nat.{ℕ, _+_, _*_, _%_, _≤_, _<_}
-use mathlib.Core.Bool.{Bool, true, false}
+use mathlib.Core.Bool.{true}
 use mathlib.Core.List.{List}
 use mathlib.Core.Logic.{⊎-elim}
 use mathlib.Core.Path.{_≡_, ap, sym, _∙_}

@@ -7,6 +7,7 @@ use Rattle.orders.specs.Permutation.{ceiling}
 use Rattle.plans.specs.BringUp.{bringUp}
 use Rattle.slices.specs.OneSwap.{plainSwap}
 use Rattle.slices.specs.Run.{runOf}
+use Rattle.texts.specs.Put.{Printed}
 use Rattle.program.specs.Text.{printed}
 
 -- the largest number of 32 bits
@@ -17,6 +18,10 @@ largestBudget = 4294967295
 -- unless it is refused, the roots with the table and the order that it leaves.
 unfoldable pub programText : List ℕ → List ℕ → List ℕ → List ℕ → List ℕ
 programText t r o g = let ran = runOf plainSwap bringUp t r o g largestBudget in printed (ran .answer) (ran .table) r (ran .order)
+
+-- what the program may write: the list was x and is y, and its first n bytes are the text
+abbrev pub Prints : List ℕ → List ℕ → List ℕ → List ℕ → List ℕ → List ℕ → ℕ → Type 0
+Prints t r o g x y n = Printed (programText t r o g) x y n
 
 -- the bytes that the text of a full store takes at most, with one variable more than an order may have
 abbrev pub mostText : ℕ

@@ -5,7 +5,7 @@ ghost use Prim.Native.Nat.{_≤_};
 ghost use lib.ListN.{length};
 ghost use Rattle.texts.specs.Put.{Put, Space, Printed};
 ghost use Rattle.program.specs.Text.{swapsText, lackText, answerText, isRefused, storeText, printed};
-ghost use Rattle.program.specs.Program.{programText, mostText, Held};
+ghost use Rattle.program.specs.Program.{Prints, mostText, Held};
 ghost use Rattle.slices.specs.declared.RunAnswer.the-variants.{NoRoom, Refused};
 use checks::Refusal;
 use diagrams::MOST_RECORDS;
@@ -118,7 +118,7 @@ pub fn text(
     out: &mut [u8],
 ) -> usize
     requires { ⌜ Held (now table) (now roots) (now order) × (mostText ≤ length (now out)) ⌝ }
-    ensures { λ n. ⌜ Printed (programText (now (table .entry)) (now (roots .entry)) (now (order .entry)) (now (target .entry))) (now (out .entry)) (now (out .exit)) n ⌝ }
+    ensures { λ n. ⌜ Prints (now (table .entry)) (now (roots .entry)) (now (order .entry)) (now (target .entry)) (now (out .entry)) (now (out .exit)) n ⌝ }
 {
     let answer = slices::run(table, roots, order, target, u32::MAX);
     print(out, answer, table, roots, order)

@@ -18,7 +18,7 @@ use Rattle.check_permutation.specs.BadPlace.{badPlace}
 use Rattle.orders.specs.Exchange.{exchange}
 use Rattle.plans.specs.Inversions.{inverted, left}
 use Rattle.plans.specs.Plans.{differsAt, same?}
-use Rattle.plans.specs.BringUp.{bringUp, nearest}
+use Rattle.plans.specs.BringUp.{bringUp, firstDifference}
 use Rattle.check_sizes.specs.Sizes.{badSizes}
 use Rattle.diagrams.specs.References.{namesRecord, dead}
 use Rattle.check_malformed.specs.Malformed.{malformed}
@@ -72,7 +72,7 @@ rootBytes (x ∷ s) = x % 256 ∷ x / 256 ∷ rootBytes s
 unfoldable pub outcome : Row → Outcome
 unfolding nodeAt decode eight encode rootsOf runOf runStages badRunSizes badSizes only verdictFrom holdsAt badPlace levelOf tableStages dead malformed
     notUnder notBelow lowIsHigh sameRecord repeats deadRoot rootNames recordNames idle ranTo answerOf relay slice leaves over.judge made goes next arrived
-    same? differsAt bringUp nearest exchange left inverted pairs total first count tabulate keep once each which look lowOf highOf isFreeNode isOf same
+    same? differsAt bringUp firstDifference exchange left inverted pairs total first count tabulate keep once each which look lowOf highOf isFreeNode isOf same
     grandchild f00 f01 f10 f11 crosses asked stands isNew wanted news stillNames dies slots slotOf X becomes needed freeCount fits slotIndex filled recordAfter swapped
     wayOf tableAfter namesRecord
 outcome row =

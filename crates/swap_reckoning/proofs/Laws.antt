@@ -1,28 +1,108 @@
--- What a swap asks for and what it names, in its work area: one law for each way out of a function, over plain variables.
-use Prim.Native.Nat.{ℕ, _+_, _*_, _≤_, _<_}
-use mathlib.Core.Bool.{Bool, true, false, not, _&&_}
+-- What a swap asks for, in its work area: one law for each way out of a function, over plain variables.
+use Prim.Native.Nat.{ℕ, _+_, _≤_, _<_}
+use mathlib.Core.Bool.{Bool, true, false, cond, not, _&&_}
 use mathlib.Core.List.{List}
-use mathlib.Core.Path.{_≡_, sym, _∙_}
+use mathlib.Core.Path.{_≡_, sym, ap, _∙_}
 use native.Mathlib.Omega.{arith}
 use borrow.Author.Needs.{needs}
 use borrow.Author.Tests.{eq-eqb, ne-eqb, lt-ltb, le-ltb}
+use lib.Dec.{ltb}
 use lib.ListN.{length, getD, set}
 use lib.Seq.{set-out}
 use Rattle.lists.specs.First.{first, any}
-use Rattle.lists.specs.Entries.{through}
-use Rattle.lists.specs.Fold.{fold, Steps}
-use Rattle.diagrams.specs.Layout.{mostRecords, records, rootCount, rootAt, lowAt, highAt, isUsed}
-use Rattle.diagrams.specs.Node.{ref}
+use Rattle.lists.specs.Says.{either-side}
+use Rattle.diagrams.specs.Layout.{mostRecords, records, rootAt, lowAt, highAt, isUsed}
 use Rattle.diagrams.specs.Lookup.{lookup}
-use Rattle.check_sizes.specs.Sizes.{Sized}
+use Rattle.diagrams.specs.Node.{ref}
+use Rattle.diagrams.specs.declared.Reference.{Reference}
 use Rattle.swap_rules.specs.Record.{isOf}
-use Rattle.swap_records.specs.Grands.{Grands}
-use Rattle.swap_records.specs.declared.Grandchildren.{Grandchildren}
-use Rattle.swap_records.specs.Inside.{entries}
-use Rattle.swap_reckoning.specs.Reckoning.{News, matchesAt, newAt, notePair, noteCrossing, slotAt, settledAt, named, namedRoot, namedBy, namedOther, noNames, namesOf}
-use Rattle.swap_reckoning.specs.Naming.{Countable, countable-none, countable-less, countable-named, countable-fold, root-step, other-step}
+use Rattle.swap_records.specs.Listed.{Inside, entries}
+use Rattle.swap_records.specs.Pairs.{putAt}
+use Rattle.swap_reckoning.specs.Searching.{News, matchesAt, newAt, notePair, slotAt, settledAt, Searchable, Noted}
+use Rattle.swap_reckoning.specs.Naming.{named, namedRoot, namedBy, namedOther, namedEntry, CountRoom, room-less, room-named}
+use Rattle.swap_reckoning.specs.Naming.{two-of-root, two-of-other, two-of-entry}
+use Rattle.swap_reckoning.specs.Naming.{counting-begins, counting-one, counting-two, counting-goes, counting-ends}
+use Rattle.swap_reckoning.specs.Reckoned.{asks-low, asks-high, answered, turns-begin, turn-comes, turn-room, turn-asks, turn-keeps, turn-taken}
+use Rattle.swap_reckoning.specs.declared.Counts.{Counts}
 
--- ---- what is named
+-- ---- a slot
+
+module _ (slots : List ℕ) (free j : ℕ) where
+  pub slot-there : {v w : ℕ} → v ≡ getD slots j 0 → w ≡ v + 2 → j < free → w ≡ slotAt slots free j
+  unfolding slotAt
+  slot-there e q h = rw (lt-ltb j free h) (cc)
+
+  pub slot-past : {w : ℕ} → w ≡ 0 + 2 → free ≤ j → w ≡ slotAt slots free j
+  unfolding slotAt
+  slot-past q h = rw (le-ltb j free h) q
+
+  slot-small : {t : List ℕ} → Inside t slots free → records t ≤ mostRecords → slotAt slots free j < 65536
+  unfolding slotAt
+  slot-small s few = either-side j free (λ h. rw (lt-ltb j free h) (omega (arith, s .at j h))) (λ h. rw (le-ltb j free h) (omega arith))
+
+-- ---- X(a, b) is asked for
+
+module _ {t standing slots news : List ℕ} {q : Counts} (s : Searchable t standing slots news q) where
+  abbrev so-far : News
+  so-far = record { list = news; count = q .needed }
+
+  pub note-one : {b : ℕ} (a : Reference) → a .0 ≡ b → a .0 < 65536 → Noted t standing slots news q (a .0) b news (record { reference = a; needed = q .needed })
+  unfolding notePair settledAt
+  note-one {b} a e l = record { noted = rw (eq-eqb (a .0) b e); settled = rw (eq-eqb (a .0) b e); small = l; few = omega arith }
+
+  module _ {a b k : ℕ} (w : Reference) (differ : a ≡ b → ⊥) (found : k ≡ first (matchesAt t standing a b) (q .standing)) where
+    pub note-stands : {v : ℕ} → v ≡ getD standing k 0 → w .0 ≡ v + 2 → k < q .standing
+        → Noted t standing slots news q a b news (record { reference = w; needed = q .needed })
+    unfolding notePair settledAt
+    note-stands e p h = record {
+      noted = rw (ne-eqb a b differ, stands);
+      settled = p ∙ rw (ne-eqb a b differ, stands, ← found, e);
+      small = omega (arith, s .few, s .standing-in .at k h);
+      few = omega arith;
+    }
+      where
+        stands : any (matchesAt t standing a b) (q .standing) ≡ true
+        stands = lt-ltb (first (matchesAt t standing a b) (q .standing)) (q .standing) (rw found at h)
+
+    module _ {j : ℕ} (none : q .standing ≤ k) (place : j ≡ first (newAt news a b) (q .needed)) (at : w .0 ≡ slotAt slots (q .free) j) where
+      no-match : any (matchesAt t standing a b) (q .standing) ≡ false
+      no-match = le-ltb (first (matchesAt t standing a b) (q .standing)) (q .standing) (rw found at none)
+
+      settled-there : w .0 ≡ settledAt t standing (q .standing) so-far a b slots (q .free)
+      unfolding settledAt
+      settled-there = at ∙ rw (ne-eqb a b differ, no-match, ← place)
+
+      small-there : w .0 < 65536
+      small-there = rw at (slot-small slots (q .free) j (s .slots-in) (s .few))
+
+      pub note-known : j < q .needed → Noted t standing slots news q a b news (record { reference = w; needed = q .needed })
+      unfolding notePair
+      note-known h = record {
+        noted = rw (ne-eqb a b differ, no-match, lt-ltb (first (newAt news a b) (q .needed)) (q .needed) (rw place at h));
+        settled = settled-there;
+        small = small-there;
+        few = omega arith;
+      }
+
+      pub note-new : {news′ : List ℕ} → q .needed ≤ j → news′ ≡ putAt news (q .needed) a b
+          → Noted t standing slots news q a b news′ (record { reference = w; needed = q .needed + 1 })
+      unfolding notePair
+      note-new h e = record {
+        noted = rw (ne-eqb a b differ, no-match, le-ltb (first (newAt news a b) (q .needed)) (q .needed) (rw place at h), e);
+        settled = settled-there;
+        small = small-there;
+        few = omega arith;
+      }
+
+pub ruleset noting = (note-one, note-stands, note-known, note-new, entries)
+
+-- ---- one record asks, and the crossing records take their turns
+
+pub ruleset asking = (asks-low, asks-high, answered, needs)
+
+pub ruleset turning = (turns-begin, turn-comes, turn-room, turn-asks, turn-keeps, turn-taken, needs)
+
+-- ---- the names
 
 module _ (l : List ℕ) (q : ℕ) where
   pub name-counts : {v : ℕ} → v ≡ getD l q 0 → set l q (v + 1) ≡ named l q
@@ -33,109 +113,37 @@ module _ (l : List ℕ) (q : ℕ) where
   unfolding named
   name-passes h = sym (set-out l q (getD l q 0 + 1) h)
 
-module _ (t l : List ℕ) (i : ℕ) where
-  pub both-counts : {a b : ℕ} {l₁ l₂ : List ℕ} → a ≡ lowAt t i → l₁ ≡ named l a → b ≡ highAt t i → l₂ ≡ named l₁ b → l₂ ≡ namedBy t l i
-  both-counts p q r s = cc
-
 pub root-counts : (r l : List ℕ) (k : ℕ) {x : ℕ} {l₁ : List ℕ} → x ≡ rootAt r k → l₁ ≡ named l x → l₁ ≡ namedRoot r l k
+unfolding namedRoot
 root-counts r l k p q = cc
 
-pub ruleset counting = (both-counts, name-counts, name-passes, countable-less, countable-named, needs)
+pub entry-counts : (t list l : List ℕ) (k : ℕ) {i : ℕ} {l₁ : List ℕ} → i ≡ getD list k 0 → l₁ ≡ namedBy t l i → l₁ ≡ namedEntry t list l k
+unfolding namedEntry
+entry-counts t list l k p q = rw (← p) q
 
-module _ (t l : List ℕ) (x i : ℕ) where
-  other : (u b : Bool) → u ≡ isUsed t i → b ≡ isOf x (lookup t (ref i)) → (isUsed t i && not (isOf x (lookup t (ref i)))) ≡ (u && not b)
-  other u b e p = cc
+module _ (t l : List ℕ) (i : ℕ) where
+  pub both-counts : {a b : ℕ} {l₁ l₂ : List ℕ} → a ≡ lowAt t i → l₁ ≡ named l a → b ≡ highAt t i → l₂ ≡ named l₁ b → l₂ ≡ namedBy t l i
+  unfolding namedBy
+  both-counts p q r s = cc
 
-  pub other-counts : {u b : Bool} {l′ : List ℕ} → u ≡ isUsed t i → b ≡ isOf x (lookup t (ref i)) → (u && not b) ≡ true → l′ ≡ namedBy t l i → l′ ≡ namedOther t x l i
-  unfolding namedOther
-  other-counts {u} {b} e p h q = rw (other u b e p ∙ h) q
+  module _ (x : ℕ) {u b : Bool} (used : u ≡ isUsed t i) (of-x : b ≡ isOf x (lookup t (ref i))) where
+    other : (isUsed t i && not (isOf x (lookup t (ref i)))) ≡ (u && not b)
+    other = cc
 
-  pub other-passes : {u b : Bool} → u ≡ isUsed t i → b ≡ isOf x (lookup t (ref i)) → (u && not b) ≡ false → l ≡ namedOther t x l i
-  unfolding namedOther
-  other-passes {u} {b} e p h = rw (other u b e p ∙ h)
+    pub other-counts : {l′ : List ℕ} → (u && not b) ≡ true → l′ ≡ namedBy t l i → l′ ≡ namedOther t x l i
+    unfolding namedOther
+    other-counts h q = rw (other ∙ h) q
 
-pub ruleset naming = (other-counts, other-passes, needs)
+    pub other-passes : (u && not b) ≡ false → l ≡ namedOther t x l i
+    unfolding namedOther
+    other-passes h = rw (other ∙ h)
 
--- a loop of steps with at most two names each has room for the next
-pub countable-now : {f : List ℕ → ℕ → List ℕ} {a l : List ℕ} {n i : ℕ} → ((l : List ℕ) (k n : ℕ) → Countable l (n + 2) → Countable (f l k) n) → Steps f a n i l → i < n → Countable a (2 * n) → Countable l 2
-countable-now {f} {a} {l} {n} {i} step s h c = rw (s .so-far) (countable-fold f step a i 2 (countable-less c (omega arith)))
+-- what is left of the room for two names
+pub room-one : {l : List ℕ} → CountRoom l 2 → CountRoom l 1
+room-one c = room-less c (omega arith)
 
--- ---- noting what is asked for
+pub room-left : {l l′ : List ℕ} (y : ℕ) → CountRoom l 2 → l′ ≡ named l y → CountRoom l′ 1
+room-left y c e = rw e (room-named y 1 c)
 
-module _ (t standing : List ℕ) (count : ℕ) (l : List ℕ) (n a b : ℕ) where
-  abbrev pub newsOf : News
-  newsOf = record { list = l; count = n }
-
-  pub note-same : a ≡ b → newsOf ≡ notePair t standing count newsOf a b
-  unfolding notePair
-  note-same e = rw (eq-eqb a b e)
-
-  module _ {k : ℕ} (at : k ≡ first (matchesAt t standing a b) count) (ne : a ≡ b → ⊥) where
-    pub note-stands : k < count → newsOf ≡ notePair t standing count newsOf a b
-    unfolding notePair
-    note-stands h = rw (ne-eqb a b ne, lt-ltb (first (matchesAt t standing a b) count) count (rw at at h))
-
-    module _ {j : ℕ} (found : j ≡ first (newAt l a b) n) (past : count ≤ k) where
-      none : any (matchesAt t standing a b) count ≡ false
-      none = le-ltb (first (matchesAt t standing a b) count) count (rw at at past)
-
-      pub note-known : j < n → newsOf ≡ notePair t standing count newsOf a b
-      unfolding notePair
-      note-known h = rw (ne-eqb a b ne, none, lt-ltb (first (newAt l a b) n) n (rw found at h))
-
-      pub note-new : n ≤ j → record { list = set (set l (2 * n) a) (2 * n + 1) b; count = n + 1 } ≡ notePair t standing count newsOf a b
-      unfolding notePair
-      note-new h = rw (ne-eqb a b ne, none, le-ltb (first (newAt l a b) n) n (rw found at h))
-
--- a crossing record, low before high
-pub crossing-notes : (t standing : List ℕ) (y count i : ℕ) (p : News) {g : Grandchildren} {p₁ p₂ : News} → Grands t y i g
-    → p₁ ≡ notePair t standing count p (g .f00 .0) (g .f10 .0) → p₂ ≡ notePair t standing count p₁ (g .f01 .0) (g .f11 .0) → p₂ ≡ noteCrossing t y standing count p i
-crossing-notes t standing y count i p g n₁ n₂ = rw (← g .is00, ← g .is10, ← g .is01, ← g .is11, ← n₁) n₂
-
--- ---- where X(a, b) is
-
-module _ (t standing : List ℕ) (count : ℕ) (l : List ℕ) (n : ℕ) (slots : List ℕ) (frees a b : ℕ) where
-  pub settle-same : a ≡ b → a ≡ settledAt t standing count (newsOf t standing count l n a b) slots frees a b
-  unfolding settledAt
-  settle-same e = rw (eq-eqb a b e)
-
-  module _ {k : ℕ} (at : k ≡ first (matchesAt t standing a b) count) (ne : a ≡ b → ⊥) where
-    pub settle-stands : {v w : ℕ} → v ≡ getD standing k 0 → w ≡ v + 2 → k < count → w ≡ settledAt t standing count (newsOf t standing count l n a b) slots frees a b
-    unfolding settledAt
-    settle-stands e q h = q ∙ rw (ne-eqb a b ne, lt-ltb (first (matchesAt t standing a b) count) count (rw at at h), ← at, e)
-
-    pub settle-slot : {j v w : ℕ} → j ≡ first (newAt l a b) n → v ≡ slotAt slots frees j → w ≡ v + 2 → count ≤ k → w ≡ settledAt t standing count (newsOf t standing count l n a b) slots frees a b
-    unfolding settledAt
-    settle-slot e p q h = q ∙ rw (ne-eqb a b ne, le-ltb (first (matchesAt t standing a b) count) count (rw at at h), ← e, p)
-
-pub slot-in : (slots : List ℕ) (frees j : ℕ) {v : ℕ} → v ≡ getD slots j 0 → j < frees → v ≡ slotAt slots frees j
-unfolding slotAt
-slot-in slots frees j e h = rw (lt-ltb j frees h) e
-
-pub slot-out : (slots : List ℕ) (frees j : ℕ) → frees ≤ j → 0 ≡ slotAt slots frees j
-unfolding slotAt
-slot-out slots frees j h = rw (le-ltb j frees h)
-
-pub ruleset settling = (settle-same, settle-stands, settle-slot, slot-in, slot-out, entries)
-
--- ---- all names
-
--- the names are counted in turn, and each loop has room for its own
-module _ {t r : List ℕ} (sized : Sized t r) {l₀ : List ℕ} (none : l₀ ≡ noNames) where
-  pub room-roots : Countable l₀ (2 * rootCount r)
-  room-roots = rw none (countable-less countable-none (omega (arith, sized .few-roots)))
-
-  module _ {l₁ : List ℕ} (roots : l₁ ≡ fold (namedRoot r) l₀ (rootCount r)) where
-    room-after : (n : ℕ) → n ≤ 4 * mostRecords → Countable l₁ n
-    room-after n h = rw (roots, none) (countable-fold (namedRoot r) (root-step r) noNames (rootCount r) n (countable-less countable-none (omega (arith, sized .few-roots))))
-
-    pub room-others : Countable l₁ (2 * records t)
-    room-others = room-after (2 * records t) (omega (arith, sized .few-records))
-
-    module _ (x : ℕ) {l₂ : List ℕ} (others : l₂ ≡ fold (namedOther t x) l₁ (records t)) where
-      pub room-standing : {m : ℕ} → m ≤ records t → Countable l₂ (2 * m)
-      room-standing {m} h = rw others (countable-fold (namedOther t x) (other-step t x) l₁ (records t) (2 * m) (room-after (2 * m + 2 * records t) (omega (arith, sized .few-records))))
-
-      pub named-all : (standing : List ℕ) (m : ℕ) {l₃ : List ℕ} → l₃ ≡ fold (through standing (namedBy t)) l₂ m → l₃ ≡ namesOf t r x standing m
-      unfolding namesOf
-      named-all standing m e = e ∙ rw (others, roots, none)
+pub ruleset counting =
+    (counting-begins, counting-one, counting-two, counting-goes, counting-ends, two-of-root, two-of-other, two-of-entry, root-counts, entry-counts, entries)

@@ -1,4 +1,6 @@
-pub mod Reckoning
+pub mod Asked
+pub mod Searching
 pub mod Noting
 pub mod Naming
+pub mod Dying
 pub mod Reckoned

@@ -1,185 +1,244 @@
--- The reckoning of a swap holds what its definition speaks of: the work area's lists are the definition's, and each record becomes what the definition says.
+-- The reckoning of a swap: its lists hold what the definition speaks of.
 use Prim.Native.Nat.{ℕ, _+_, _*_, _≤_, _<_}
-use mathlib.Core.Bool.{Bool, true, false, cond, _&&_}
+use mathlib.Core.Bool.{true, false}
 use mathlib.Core.List.{List}
-use mathlib.Core.Logic.{_⊎_, inl, inr}
 use mathlib.Core.Path.{_≡_, refl, ap, ap₂, sym, _∙_}
+use native.Mathlib.Nat.{not-suc-le-zero}
 use native.Mathlib.Omega.{arith}
-use lib.Dec.{eqb, ltb, leb}
-use lib.ListN.{length, getD, List·getD-eq-default}
-use borrow.Author.Tests.{ltb-true, lt-ltb, le-ltb}
-use Rattle.lists.specs.First.{first, any}
-use Rattle.lists.specs.Count.{count}
-use Rattle.lists.specs.Collect.{Collected}
-use Rattle.lists.specs.Entries.{through, length-entries, entry-at, entry-below, fold-entries}
-use Rattle.lists.specs.Fold.{fold}
-use Rattle.lists.specs.Which.{which, which-length, which-agrees}
+use lib.ListN.{length, getD}
+use Rattle.lists.specs.Entries.{length-entries, entries-few, entry-at}
 use Rattle.lists.specs.Says.{either-side}
-use Rattle.lists.specs.Ranks.{which-index, which-absent}
-use Rattle.lists.specs.Truth.{by, and-left, and-right}
-use Rattle.diagrams.specs.Layout.{mostRecords, records, variableAt, lowAt, highAt, isFree}
-use Rattle.diagrams.specs.Node.{Node, free, node, at, ref, two-more}
-use Rattle.diagrams.specs.Decode.{nodeAt, decode}
-use Rattle.diagrams.specs.Lookup.{lookup, at-decode, rootsOf}
-use Rattle.diagrams.specs.Edition.{plain}
-use Rattle.swap_rules.specs.Record.{isFreeNode, same}
-use Rattle.swap_rules.specs.Swap.{crosses, news, slots, slotOf, needed, freeCount, fits, X, becomes, slotIndex, filled, dies, recordAfter, f00, f01, f10, f11}
-use Rattle.swap_records.specs.Kinds.{ofAt, crossesAt, standsAt}
-use Rattle.swap_records.specs.Inside.{Inside, inside-of}
-use Rattle.swap_reckoning.specs.Reckoning.{matchesAt, News, newAt, noteCrossing, slotAt, settledAt, namesOf, unnamed, crossedAt, rewritten}
-use Rattle.swap_reckoning.specs.Noting.{noteRecord, begun, begun-count, begun-length, newsList, length-news, news-at, new-first, found, sought, standing-finds, standing-any, news-whole}
-use Rattle.swap_reckoning.specs.Naming.{dies-is}
+use Rattle.lists.specs.Tabulate.{tabulate}
+use Rattle.diagrams.specs.Layout.{mostRecords, records, isFree, InTable}
+use Rattle.diagrams.specs.Node.{Node, node, ref}
+use Rattle.diagrams.specs.Lookup.{lookup}
+use Rattle.swap_rules.specs.Swap.{asked, f00, f01, f10, f11}
+use Rattle.swap_records.specs.Grands.{Grands}
+use Rattle.swap_records.specs.Listed.{RoomFor, CrossingListed, StandingListed, FreeListed, inside-of, in-use, entry-inside, entry-used}
+use Rattle.swap_records.specs.Pairs.{PairRoom, pairAt, pairsOf, putAt, length-put, put-here, put-other}
+use Rattle.swap_records.specs.declared.Grandchildren.{Grandchildren}
+use Rattle.swap_records.specs.declared.Pair.{Pair}
+use Rattle.swap_reckoning.specs.Asked.{crossings, newsIn, becomesIn, newsAfter, settledIn, noted, lowNoted, bothNoted}
+use Rattle.swap_reckoning.specs.Asked.{lowSettled, highSettled, crossedNode, news-none, news-all, news-next, becomes-then}
+use Rattle.swap_reckoning.specs.Searching.{News, settledAt, withNeeded, Searchable, Noted}
+use Rattle.swap_reckoning.specs.Noting.{newsOf, pair-noted, settled-in}
+use Rattle.swap_reckoning.specs.declared.Counts.{Counts}
+use Rattle.swap_reckoning.specs.declared.news.Crossed.{Crossed}
+use Rattle.swap_reckoning.specs.declared.news.Settled.{Settled}
 
--- ---- the free records
+-- room in the lists that are lent for it: a record may be of any kind
+pub record SortRoom (t crossing standing slots : List ℕ) : Type 0 where
+  pub crossing-room : RoomFor t crossing
+  pub standing-room : RoomFor t standing
+  pub slots-room : RoomFor t slots
 
-free-is : (t : List ℕ) (i : ℕ) → i < records t → isFreeNode (at (decode t) i) ≡ isFree t i
-unfolding nodeAt isFreeNode
-free-is t i b = ap isFreeNode (at-decode t i b) ∙ go (isFree t i)
-  where
-    go : (u : Bool) → isFreeNode (cond u free (node (variableAt t i) (lowAt t i) (highAt t i))) ≡ u
-    go true = refl
-    go false = refl
+-- each crossing record asks for at most two new ones, and becomes a record with two references
+pub record TurnRoom (news kept : List ℕ) : Type 0 where
+  pub news-long : length news ≡ 4 * mostRecords
+  pub kept-long : length kept ≡ 2 * mostRecords
 
-module _ (t : List ℕ) where
-  slots-which : slots (at (decode t)) (records t) ≡ which (isFree t) (records t)
-  unfolding slots
-  slots-which = which-agrees _ _ (records t) (free-is t)
-
-  free-count : length (which (isFree t) (records t)) ≡ freeCount (at (decode t)) (records t)
-  unfolding slots freeCount
-  free-count = ap length (sym slots-which) ∙ which-length (λ i. isFreeNode (at (decode t) i)) (records t)
-
-  -- a free record is the slot with as many before it as are free before it
-  turn-free : (i : ℕ) → i < records t → isFree t i ≡ true → slotIndex (at (decode t)) (records t) i ≡ count (isFree t) i
-  unfolding slotIndex
-  turn-free i h e = rw slots-which (which-index (isFree t) (records t) i h e)
-
-  -- a used one is none
-  turn-used : (i : ℕ) → isFree t i ≡ false → slotIndex (at (decode t)) (records t) i ≡ freeCount (at (decode t)) (records t)
-  unfolding slotIndex
-  turn-used i e = rw slots-which (which-absent (isFree t) (records t) i e) ∙ free-count
-
-  filled-is : (x y : ℕ) → needed plain (at (decode t)) (records t) x y ≤ freeCount (at (decode t)) (records t)
-      → (i : ℕ) → i < records t → filled plain (at (decode t)) (records t) x y i ≡ (isFree t i && ltb (count (isFree t) i) (needed plain (at (decode t)) (records t) x y))
-  unfolding filled
-  filled-is x y fit i h = go (by (isFree t i))
-    where
-      go : (isFree t i ≡ true) ⊎ (isFree t i ≡ false) → ltb (slotIndex (at (decode t)) (records t) i) (needed plain (at (decode t)) (records t) x y) ≡ (isFree t i && ltb (count (isFree t) i) (needed plain (at (decode t)) (records t) x y))
-      go (inl e) = rw (e, turn-free i h e)
-      go (inr e) = rw (e, turn-used i e) (le-ltb _ _ fit)
-
-  module _ {list : List ℕ} {frees : ℕ} (C : Collected (isFree t) (records t) list frees) where
-    frees-is : frees ≡ freeCount (at (decode t)) (records t)
-    frees-is = sym (length-entries C) ∙ free-count
-
-    -- slot j, and 0 past the last one
-    pub slot-is : (j : ℕ) → slotAt list frees j ≡ getD (slots (at (decode t)) (records t)) j 0
-    unfolding slotAt
-    slot-is j = rw slots-which (either-side j frees there past)
-      where
-        there : j < frees → cond (ltb j frees) (getD list j 0) 0 ≡ getD (which (isFree t) (records t)) j 0
-        there h = rw (lt-ltb j frees h) (entry-at C j h)
-
-        past : frees ≤ j → cond (ltb j frees) (getD list j 0) 0 ≡ getD (which (isFree t) (records t)) j 0
-        past h =
-            let l : length (which (isFree t) (records t)) ≤ j = omega (arith, length-entries C) in
-            rw (le-ltb j frees h) (sym (List·getD-eq-default (which (isFree t) (records t)) 0 l))
-
--- ---- the work area as the code fills it: m standing records, the new ones, and the free ones
-
-pub record Reckoned (t : List ℕ) (x y : ℕ) (standing : List ℕ) (m : ℕ) (p : News) (list : List ℕ) (frees : ℕ) : Type 0 where
+-- where X(a, b) is looked for: the standing records, and the slots for new ones
+pub record Sources (t : List ℕ) (p : Pair) (standing slots : List ℕ) (q : Counts) : Type 0 where
   pub few : records t ≤ mostRecords
-  pub standing-are : Collected (standsAt t x y) (records t) standing m
-  pub start : List ℕ
-  pub long : 4 * mostRecords ≤ length start
-  pub news-are : p ≡ fold (noteRecord t x y standing m) (begun start) (records t)
-  pub slots-are : Collected (isFree t) (records t) list frees
+  pub standing-are : StandingListed t p standing (q .standing)
+  pub slots-are : FreeListed t slots (q .free)
 
--- the new records are noted of the crossing ones only
-module _ (t : List ℕ) (x y : ℕ) {standing : List ℕ} {m : ℕ} {crossing : List ℕ} {k : ℕ} {p : News} {slots : List ℕ} {frees : ℕ} (start : List ℕ) where
-  pub reckoned : records t ≤ mostRecords → Collected (standsAt t x y) (records t) standing m → Collected (crossesAt t x y) (records t) crossing k → 4 * mostRecords ≤ length start
-      → p ≡ fold (through crossing (noteCrossing t y standing m)) (record { list = start; count = 0 }) k → Collected (isFree t) (records t) slots frees → Reckoned t x y standing m p slots frees
-  unfolding noteRecord
-  reckoned few S K long e F =
-      record { few = few; standing-are = S; start = start; long = long; news-are = e ∙ fold-entries (noteCrossing t y standing m) (crossesAt t x y) K (record { list = start; count = 0 }); slots-are = F }
+-- the used record i asks, and there is room for two new records
+pub record Asks (t : List ℕ) (p : Pair) (standing slots news : List ℕ) (q : Counts) (i : ℕ) : Type 0 where
+  pub sources : Sources t p standing slots q
+  pub room : 2 * q .needed + 4 ≤ length news
+  pub inside : InTable t i
+  pub used : isFree t i ≡ false
 
-module _ {t : List ℕ} {x y : ℕ} {standing : List ℕ} {m : ℕ} {p : News} {list : List ℕ} {frees : ℕ} (R : Reckoned t x y standing m p list frees) where
-  pub inside : Inside t standing m
-  inside = inside-of (R .standing-are)
+-- it asked for its low, then for its high: both are settled, and noted among the n new records so far
+pub record Answered (t : List ℕ) (p : Pair) (i : ℕ) (news : List ℕ) (n : ℕ) (news′ : List ℕ) (r : Crossed) : Type 0 where
+  pub noted : pairsOf (p .x .0) news′ (r .needed) ≡ bothNoted t (p .x .0) (p .y .0) (pairsOf (p .x .0) news n) i
+  pub settled : node (p .y .0) (r .low .0) (r .high .0) ≡ crossedNode t (p .x .0) (p .y .0) (pairsOf (p .x .0) news n) i
+  pub low-small : r .low .0 < 65536
+  pub high-small : r .high .0 < 65536
+  pub few : r .needed ≤ n + 2
 
-  -- X(a, b) is a reference that two bytes hold
-  pub settled-small : (a b : ℕ) → a < 65536 → settledAt t standing m p list frees a b < 65536
-  unfolding settledAt slotAt
-  settled-small a b h = go (eqb a b) (by (any (matchesAt t standing a b) m)) (by (ltb (first (newAt (p .list) a b) (p .count)) frees))
-    where
-      go : (u : Bool) → (any (matchesAt t standing a b) m ≡ true) ⊎ (any (matchesAt t standing a b) m ≡ false)
-          → (ltb (first (newAt (p .list) a b) (p .count)) frees ≡ true) ⊎ (ltb (first (newAt (p .list) a b) (p .count)) frees ≡ false)
-          → cond u a (cond (any (matchesAt t standing a b) m) (getD standing (found t standing m a b) 0 + 2) (cond (ltb (first (newAt (p .list) a b) (p .count)) frees) (getD list (first (newAt (p .list) a b) (p .count)) 0) 0 + 2)) < 65536
-      go true _ _ = h
-      go false (inl e) _ = rw e (omega (arith, R .few, entry-below (R .standing-are) (found t standing m a b) (ltb-true _ _ e)))
-      go false (inr e) (inl f) = rw (e, f) (omega (arith, R .few, entry-below (R .slots-are) (first (newAt (p .list) a b) (p .count)) (ltb-true _ _ f)))
-      go false (inr e) (inr f) = rw (e, f) (omega arith)
+-- the first k crossing records have had their turn: n records are new, and each of the k becomes a y record with the two references kept for it
+pub record Turns (t : List ℕ) (p : Pair) (crossing news kept : List ℕ) (n k : ℕ) : Type 0 where
+  pub room : TurnRoom news kept
+  pub few : n ≤ 2 * k
+  pub news-are : pairsOf (p .x .0) news n ≡ newsAfter t (p .x .0) (p .y .0) k
+  pub kept-are : (j : ℕ) → j < k → pairAt (p .y .0) kept j ≡ becomesIn t (p .x .0) (p .y .0) (ref (getD crossing j 0))
 
-  pub news-is : newsList x p ≡ news plain (at (decode t)) (records t) x y
-  news-is = ap (newsList x) (R .news-are) ∙ news-whole t x y standing m (R .standing-are) (R .start) (omega (arith, R .few, R .long))
+-- the lists of the records
+pub record Sorted (t : List ℕ) (p : Pair) (crossing standing slots : List ℕ) (q : Counts) : Type 0 where
+  pub sources : Sources t p standing slots q
+  pub crossing-are : CrossingListed t p crossing (q .crossing)
 
-  pub needed-is : p .count ≡ needed plain (at (decode t)) (records t) x y
-  unfolding needed
-  needed-is = sym (length-news x p) ∙ ap length news-is
+-- it is the turn of crossing record k
+pub record Turn (t : List ℕ) (p : Pair) (crossing standing slots news kept : List ℕ) (q : Counts) (k : ℕ) : Type 0 where
+  pub sorted : Sorted t p crossing standing slots q
+  pub so-far : Turns t p crossing news kept (q .needed) k
+  pub next : k < q .crossing
 
-  pub free-count-is : frees ≡ freeCount (at (decode t)) (records t)
-  free-count-is = frees-is t (R .slots-are)
+-- all have had their turn: the new records are the swap's
+pub record Reckoned (t : List ℕ) (p : Pair) (crossing standing slots news kept : List ℕ) (q : Counts) : Type 0 where
+  pub sorted : Sorted t p crossing standing slots q
+  pub news-room : 2 * q .needed ≤ length news
+  pub kept-room : 2 * q .crossing ≤ length kept
+  pub news-are : pairsOf (p .x .0) news (q .needed) ≡ newsIn t (p .x .0) (p .y .0)
+  pub kept-are : (j : ℕ) → j < q .crossing → pairAt (p .y .0) kept j ≡ becomesIn t (p .x .0) (p .y .0) (ref (getD crossing j 0))
 
-  -- there is room by these two numbers exactly where the definition says so
-  pub fits-is : leb (p .count) frees ≡ fits plain (at (decode t)) (records t) x y
-  unfolding fits
-  fits-is = ap₂ leb needed-is free-count-is
+-- ---- one record asks
 
-  slot-of : (a b : ℕ) → slotAt list frees (first (newAt (p .list) a b) (p .count)) ≡ slotOf plain (at (decode t)) (records t) x y (node x a b)
-  unfolding slotOf
-  slot-of a b =
-      slot-is t (R .slots-are) (first (newAt (p .list) a b) (p .count))
-      ∙ ap (λ j. getD (slots (at (decode t)) (records t)) j 0) (sym (new-first x p a b) ∙ ap (λ (l : List Node). first (λ j. same (node x a b) (getD l j free)) (length l)) news-is)
+module _ {t : List ℕ} {p : Pair} {standing slots news : List ℕ} {q : Counts} {i : ℕ} (A : Asks t p standing slots news q i) where
+  abbrev x : ℕ
+  x = p .x .0
 
-  -- X(a, b), as found in the work area
-  pub settled-is : (a b : ℕ) → settledAt t standing m p list frees a b ≡ X plain (at (decode t)) (records t) x y a b
-  unfolding settledAt X
-  settled-is a b = ap (cond (eqb a b) a) (rw (standing-any t x y standing m (R .standing-are) a b) (go (by (any (matchesAt t standing a b) m))))
-    where
-      go : (any (matchesAt t standing a b) m ≡ true) ⊎ (any (matchesAt t standing a b) m ≡ false)
-          → cond (any (matchesAt t standing a b) m) (getD standing (found t standing m a b) 0 + 2) (slotAt list frees (first (newAt (p .list) a b) (p .count)) + 2)
-          ≡ ref (cond (any (matchesAt t standing a b) m) (sought t x y a b) (slotOf plain (at (decode t)) (records t) x y (node x a b)))
-      go (inl e) = rw e (two-more _ ∙ ap ref (standing-finds t x y standing m (R .standing-are) a b (ltb-true _ _ e)))
-      go (inr e) = rw e (two-more _ ∙ ap ref (slot-of a b))
+  abbrev y : ℕ
+  y = p .y .0
 
-  -- every record becomes what the definition says
-  module _ (r names : List ℕ) (names-are : names ≡ namesOf t r x standing m) where
-    buried-is : (i : ℕ) → i < records t → (ofAt t y i && unnamed names i) ≡ dies plain (at (decode t)) (records t) x y (rootsOf r) (ref i)
-    buried-is i h = rw names-are (dies-is t x y r (R .standing-are) (R .few) i h)
+  pub asks-low : Searchable t standing slots news q
+  asks-low = record {
+    few = A .sources .few;
+    standing-in = inside-of (A .sources .standing-are);
+    slots-in = inside-of (A .sources .slots-are);
+    room = omega (arith, A .room);
+  }
 
-    module _ (fit : needed plain (at (decode t)) (records t) x y ≤ freeCount (at (decode t)) (records t)) (i : ℕ) (h : i < records t) where
-      taken-is : (isFree t i && ltb (count (isFree t) i) (p .count)) ≡ filled plain (at (decode t)) (records t) x y i
-      taken-is = ap (λ n. isFree t i && ltb (count (isFree t) i) n) needed-is ∙ sym (filled-is t x y fit i h)
+  module _ {news₁ : List ℕ} {low : Settled} {then : Counts} where
+    pub asks-high : {a b : ℕ} → Noted t standing slots news q a b news₁ low → length news₁ ≡ length news → then ≡ withNeeded q (low .needed)
+        → Searchable t standing slots news₁ then
+    asks-high L same e = rw e (record {
+      few = A .sources .few;
+      standing-in = inside-of (A .sources .standing-are);
+      slots-in = inside-of (A .sources .slots-are);
+      room = omega (arith, A .room, L .few);
+    })
 
-      new-is : (isFree t i && ltb (count (isFree t) i) (p .count)) ≡ true
-          → node x (getD (p .list) (2 * count (isFree t) i) 0) (getD (p .list) (2 * count (isFree t) i + 1) 0) ≡ getD (news plain (at (decode t)) (records t) x y) (slotIndex (at (decode t)) (records t) i) free
-      new-is e =
-          sym (news-at x p (count (isFree t) i) (ltb-true _ _ (and-right (isFree t i) _ e)))
-          ∙ ap₂ (λ (l : List Node) (j : ℕ). getD l j free) news-is (sym (turn-free t i h (and-left _ _ e)))
+    module _ {g : Grandchildren} (G : Grands t y i g) (L : Noted t standing slots news q (g .f00 .0) (g .f10 .0) news₁ low)
+        (same : length news₁ ≡ length news) (carried : then ≡ withNeeded q (low .needed))
+        {news₂ : List ℕ} {high : Settled} (H : Noted t standing slots news₁ then (g .f01 .0) (g .f11 .0) news₂ high) where
+      before : News
+      before = record { list = news; count = q .needed }
 
-      other-is : (u : Bool) → (isFree t i && ltb (count (isFree t) i) (p .count)) ≡ u
-          → cond u (node x (getD (p .list) (2 * count (isFree t) i) 0) (getD (p .list) (2 * count (isFree t) i + 1) 0)) (cond (ofAt t y i && unnamed names i) free (nodeAt t i))
-          ≡ cond u (getD (news plain (at (decode t)) (records t) x y) (slotIndex (at (decode t)) (records t) i) free) (cond (dies plain (at (decode t)) (records t) x y (rootsOf r) (ref i)) free (at (decode t) i))
-      other-is true e = new-is e
-      other-is false e = ap₂ (λ (d : Bool) (o : Node). cond d free o) (buried-is i h) (sym (at-decode t i h))
+      between : News
+      between = record { list = news₁; count = low .needed }
 
-      pub rewritten-is : rewritten t x y standing m p list frees names i ≡ recordAfter plain (at (decode t)) (records t) x y (rootsOf r) i
-      unfolding rewritten crossedAt recordAfter becomes
-      rewritten-is =
-          ap₂ (λ (a b : Node). cond (crosses (lookup t) x y (ref i)) a b)
-          (ap₂ (node y) (settled-is (f00 (lookup t) y (ref i)) (f10 (lookup t) y (ref i))) (settled-is (f01 (lookup t) y (ref i)) (f11 (lookup t) y (ref i))))
-          (rw (← taken-is) (other-is (isFree t i && ltb (count (isFree t) i) (p .count)) refl))
+      H′ : Noted t standing slots news₁ (withNeeded q (low .needed)) (g .f01 .0) (g .f11 .0) news₂ high
+      H′ = rw carried at H
 
-pub news-room : {t : List ℕ} {x y : ℕ} {standing : List ℕ} {m : ℕ} {p : News} {list : List ℕ} {frees : ℕ} → Reckoned t x y standing m p list frees → 2 * p .count ≤ length (p .list)
-news-room {t} {x} {y} {standing} {m} R =
-    rw (R .news-are) (omega (arith, begun-count t standing m x y (R .start) (records t), begun-length t standing m x y (R .start) (records t), R .long, R .few))
+      low-noted : newsOf x between ≡ lowNoted t x y (newsOf x before) i
+      unfolding asked before between
+      low-noted =
+          ap (newsOf x) (L .noted) ∙ pair-noted t x y (A .sources .standing-are) _ _ before (omega (arith, A .room))
+          ∙ ap₂ (λ a b. noted t x y (newsOf x before) (node x a b)) (G .is00) (G .is10)
+
+      both-noted : pairsOf x news₂ (high .needed) ≡ bothNoted t x y (pairsOf x news (q .needed)) i
+      unfolding asked before between
+      both-noted =
+          ap (newsOf x) (H′ .noted) ∙ pair-noted t x y (A .sources .standing-are) _ _ between (omega (arith, A .room, L .few))
+          ∙ ap (λ (l : List Node). noted t x y l (node x (g .f01 .0) (g .f11 .0))) low-noted
+          ∙ ap₂ (λ a b. noted t x y (lowNoted t x y (newsOf x before) i) (node x a b)) (G .is01) (G .is11)
+
+      low-settled : low .reference .0 ≡ lowSettled t x y (pairsOf x news (q .needed)) i
+      unfolding before
+      low-settled =
+          L .settled ∙ settled-in t x y (A .sources .standing-are) _ _ before (A .sources .slots-are)
+          ∙ ap₂ (settledIn t x y (newsOf x before)) (G .is00) (G .is10)
+
+      high-settled : high .reference .0 ≡ highSettled t x y (pairsOf x news (q .needed)) i
+      unfolding before between
+      high-settled =
+          H′ .settled ∙ settled-in t x y (A .sources .standing-are) _ _ between (A .sources .slots-are)
+          ∙ ap (λ (l : List Node). settledIn t x y l (g .f01 .0) (g .f11 .0)) low-noted
+          ∙ ap₂ (settledIn t x y (lowNoted t x y (newsOf x before) i)) (G .is01) (G .is11)
+
+      pub answered : Answered t p i news (q .needed) news₂ (record { low = low .reference; high = high .reference; needed = high .needed })
+      answered = record {
+        noted = both-noted;
+        settled = ap₂ (node y) low-settled high-settled;
+        low-small = L .small;
+        high-small = H′ .small;
+        few = omega (arith, L .few, H′ .few);
+      }
+
+-- ---- all crossing records, in their turn
+
+pub turns-begin : {t : List ℕ} {p : Pair} {crossing news kept : List ℕ} → TurnRoom news kept → Turns t p crossing news kept 0 0
+unfolding pairsOf tabulate
+turns-begin {t} {p} r = record {
+  room = r;
+  few = omega arith;
+  news-are = sym (news-none t (p .x .0) (p .y .0));
+  kept-are = λ j b. absurd (not-suc-le-zero b);
+}
+
+pub turns-all : {t : List ℕ} {p : Pair} {crossing news kept : List ℕ} {n k m : ℕ} → Turns t p crossing news kept n k → k ≡ m
+    → Turns t p crossing news kept n m
+turns-all w e = rw (← e) w
+
+module _ {t : List ℕ} {p : Pair} {crossing standing slots : List ℕ} where
+  sorted-with : {q : Counts} → Sorted t p crossing standing slots q → (n : ℕ) → Sorted t p crossing standing slots (withNeeded q n)
+  sorted-with s n = record {
+    sources = record { few = s .sources .few; standing-are = s .sources .standing-are; slots-are = s .sources .slots-are };
+    crossing-are = s .crossing-are;
+  }
+
+  few-crossing : {q : Counts} → Sorted t p crossing standing slots q → q .crossing ≤ mostRecords
+  few-crossing s = omega (arith, entries-few (s .crossing-are), s .sources .few)
+
+  module _ {news kept : List ℕ} where
+    pub turn-comes : {q q′ : Counts} {n k : ℕ} → Sorted t p crossing standing slots q → Turns t p crossing news kept n k
+        → q′ ≡ withNeeded q n → k < q .crossing → Turn t p crossing standing slots news kept q′ k
+    turn-comes {q} {q′} {n} s w e h = rw e (record { sorted = sorted-with s n; so-far = w; next = h })
+
+    pub turns-end : {q q′ : Counts} {n : ℕ} → Sorted t p crossing standing slots q → Turns t p crossing news kept n (q .crossing) → q′ ≡ withNeeded q n
+        → Reckoned t p crossing standing slots news kept q′
+    turns-end {q} {q′} {n} s w e = rw e (record {
+      sorted = sorted-with s n;
+      news-room = omega (arith, w .few, w .room .news-long, few-crossing s);
+      kept-room = omega (arith, w .room .kept-long, few-crossing s);
+      news-are = w .news-are ∙ ap (newsAfter t (p .x .0) (p .y .0)) (sym (length-entries (s .crossing-are))) ∙ news-all t (p .x .0) (p .y .0);
+      kept-are = w .kept-are;
+    })
+
+    module _ {q : Counts} {k : ℕ} (T : Turn t p crossing standing slots news kept q k) where
+      pub turn-room : k < length crossing
+      turn-room = omega (arith, T .next, T .sorted .crossing-are .room)
+
+      pub turn-asks : {i : ℕ} → i ≡ getD crossing k 0 → Asks t p standing slots news q i
+      turn-asks e = record {
+        sources = T .sorted .sources;
+        room = omega (arith, T .next, T .so-far .few, T .so-far .room .news-long, few-crossing (T .sorted));
+        inside = entry-inside {t = t} (inside-of (T .sorted .crossing-are)) (T .next) e;
+        used = entry-used (in-use t p (T .sorted .crossing-are)) (T .next) e;
+      }
+
+      pub turn-keeps : PairRoom kept k
+      turn-keeps = omega (arith, T .next, T .so-far .room .kept-long, few-crossing (T .sorted))
+
+      module _ {i : ℕ} (here : i ≡ getD crossing k 0)
+          {news′ : List ℕ} {r : Crossed} (A : Answered t p i news (q .needed) news′ r) (same : length news′ ≡ length news)
+          {kept′ : List ℕ} (put : kept′ ≡ putAt kept k (r .low .0) (r .high .0)) where
+        place : i ≡ getD (crossings t (p .x .0) (p .y .0)) k 0
+        place = here ∙ entry-at (T .sorted .crossing-are) k (T .next)
+
+        among : k < length (crossings t (p .x .0) (p .y .0))
+        among = rw (length-entries (T .sorted .crossing-are)) (T .next)
+
+        becomes-here : pairAt (p .y .0) kept′ k ≡ becomesIn t (p .x .0) (p .y .0) (ref (getD crossing k 0))
+        becomes-here =
+            rw put (put-here (p .y .0) kept k (r .low .0) (r .high .0) turn-keeps)
+            ∙ A .settled
+            ∙ rw (T .so-far .news-are, place) (becomes-then t (p .x .0) (p .y .0) k among)
+            ∙ ap (λ j. becomesIn t (p .x .0) (p .y .0) (ref j)) (sym (entry-at (T .sorted .crossing-are) k (T .next)))
+
+        becomes-before : (j : ℕ) → j < k → pairAt (p .y .0) kept′ j ≡ becomesIn t (p .x .0) (p .y .0) (ref (getD crossing j 0))
+        becomes-before j l = rw put (put-other (p .y .0) kept k (r .low .0) (r .high .0) j l) ∙ T .so-far .kept-are j l
+
+        pub turn-taken : Turns t p crossing news′ kept′ (r .needed) (k + 1)
+        turn-taken = record {
+          room = record {
+            news-long = same ∙ T .so-far .room .news-long;
+            kept-long = ap length put ∙ length-put kept k (r .low .0) (r .high .0) ∙ T .so-far .room .kept-long;
+          };
+          few = omega (arith, A .few, T .so-far .few);
+          news-are = A .noted ∙ rw (T .so-far .news-are, place) (sym (news-next t (p .x .0) (p .y .0) k among));
+          kept-are = λ j l. either-side j k (becomes-before j) (λ d. let z : j ≡ k = omega arith in rw z becomes-here);
+        }

@@ -2,29 +2,28 @@
 ghost use mathlib.Core.Path.{_≡_};
 ghost use Prim.Native.Nat.{_+_, _*_, _<_, _≤_};
 ghost use lib.ListN.{length};
-ghost use Rattle.lists.specs.Entries.{through};
 ghost use Rattle.lists.specs.Fold.{fold};
 ghost use Rattle.diagrams.specs.Layout.{records, rootCount, InTable};
+ghost use Rattle.diagrams.specs.Noting.{noNotes};
 ghost use Rattle.check_sizes.specs.Sizes.{Sized};
-ghost use Rattle.swap_records.specs.Inside.{Inside};
-ghost use Rattle.swap_reckoning.specs.Reckoning.{named, namedRoot, namedBy, namedOther, noNames, namesOf, unnamed};
-ghost use Rattle.swap_reckoning.specs.Naming.{Countable};
+ghost use Rattle.swap_records.specs.Listed.{StandingListed, Inside};
+ghost use Rattle.swap_reckoning.specs.Naming.{named, namedRoot, namedBy, namedOther, namedEntry, unnamed, CountRoom};
+ghost use Rattle.swap_reckoning.specs.Dying.{Counted};
 use diagrams::MOST_RECORDS;
-use diagrams::RECORD_SIZE;
-use diagrams::ROOT_SIZE;
 use diagrams::RecordNumber;
 use diagrams::Reference;
 use diagrams::Variable;
+use swap_records::Pair;
 use swap_records::collect;
 
 fn no_names() -> [u16; MOST_RECORDS + 2]
-    ensures { λ l. ⌜ l ≡ noNames ⌝ }
+    ensures { λ l. ⌜ l ≡ noNotes ⌝ }
 {
     [0u16; MOST_RECORDS + 2]
 }
 
 fn count_name(names: &mut [u16], x: Reference)
-    requires { ⌜ Countable (now names) 1 ⌝ }
+    requires { ⌜ CountRoom (now names) 1 ⌝ }
     ensures { λ _. ⌜ now (names .exit) ≡ named (now (names .entry)) (x .0) ⌝ }
 {
     let at = x.0;
@@ -35,7 +34,7 @@ fn count_name(names: &mut [u16], x: Reference)
 
 // The two names of a record.
 fn count_both(names: &mut [u16], table: &[u8], i: RecordNumber)
-    requires { ⌜ InTable (now table) (i .0) × Countable (now names) 2 ⌝ }
+    requires { ⌜ InTable (now table) (i .0) × CountRoom (now names) 2 ⌝ }
     ensures { λ _. ⌜ now (names .exit) ≡ namedBy (now (table .entry)) (now (names .entry)) (i .0) ⌝ }
 {
     count_name(names, i.low(table));
@@ -43,10 +42,10 @@ fn count_both(names: &mut [u16], table: &[u8], i: RecordNumber)
 }
 
 fn count_roots(names: &mut [u16], roots: &[u8])
-    requires { ⌜ Countable (now names) (2 * rootCount (now roots)) ⌝ }
+    requires { ⌜ CountRoom (now names) (2 * rootCount (now roots)) ⌝ }
     ensures { λ _. ⌜ now (names .exit) ≡ fold (namedRoot (now (roots .entry))) (now (names .entry)) (rootCount (now (roots .entry))) ⌝ }
 {
-    let m = roots.len() / ROOT_SIZE;
+    let m = diagrams::count_roots(roots);
     let mut k = 0;
     while k < m {
         count_name(names, diagrams::root(roots, k));
@@ -54,8 +53,9 @@ fn count_roots(names: &mut [u16], roots: &[u8])
     }
 }
 
+// By a record of another variable than x.
 fn count_other(names: &mut [u16], table: &[u8], x: Variable, i: RecordNumber)
-    requires { ⌜ InTable (now table) (i .0) × Countable (now names) 2 ⌝ }
+    requires { ⌜ InTable (now table) (i .0) × CountRoom (now names) 2 ⌝ }
     ensures { λ _. ⌜ now (names .exit) ≡ namedOther (now (table .entry)) (x .0) (now (names .entry)) (i .0) ⌝ }
 {
     if i.is_used(table) & !swap_records::is_record_of(table, x, i) {
@@ -63,12 +63,11 @@ fn count_other(names: &mut [u16], table: &[u8], x: Variable, i: RecordNumber)
     }
 }
 
-// By the records of other variables than x.
 fn count_others(names: &mut [u16], table: &[u8], x: Variable)
-    requires { ⌜ Countable (now names) (2 * records (now table)) ⌝ }
+    requires { ⌜ CountRoom (now names) (2 * records (now table)) ⌝ }
     ensures { λ _. ⌜ now (names .exit) ≡ fold (namedOther (now (table .entry)) (x .0)) (now (names .entry)) (records (now (table .entry))) ⌝ }
 {
-    let m = table.len() / RECORD_SIZE;
+    let m = diagrams::count_records(table);
     let mut i = 0;
     while i < m {
         count_other(names, table, x, RecordNumber(i));
@@ -78,8 +77,8 @@ fn count_others(names: &mut [u16], table: &[u8], x: Variable)
 
 // By the x records that stand.
 fn count_standing(names: &mut [u16], table: &[u8], standing: &[u16], count: usize)
-    requires { ⌜ Inside (now table) (now standing) count × Countable (now names) (2 * count) ⌝ }
-    ensures { λ _. ⌜ now (names .exit) ≡ fold (through (now (standing .entry)) (namedBy (now (table .entry)))) (now (names .entry)) count ⌝ }
+    requires { ⌜ Inside (now table) (now standing) count × CountRoom (now names) (2 * count) ⌝ }
+    ensures { λ _. ⌜ now (names .exit) ≡ fold (namedEntry (now (table .entry)) (now (standing .entry))) (now (names .entry)) count ⌝ }
 {
     let mut k = 0;
     while k < count {
@@ -91,16 +90,16 @@ fn count_standing(names: &mut [u16], table: &[u8], standing: &[u16], count: usiz
 pub fn count_names(
     table: &[u8],
     roots: &[u8],
-    x: Variable,
+    pair: Pair,
     standing: &[u16],
     count: usize,
 ) -> [u16; MOST_RECORDS + 2]
-    requires { ⌜ Sized (now table) (now roots) × (Inside (now table) (now standing) count × (count ≤ records (now table))) ⌝ }
-    ensures { λ names. ⌜ names ≡ namesOf (now (table .entry)) (now (roots .entry)) (x .0) (now (standing .entry)) count ⌝ }
+    requires { ⌜ Sized (now table) (now roots) × StandingListed (now table) pair (now standing) count ⌝ }
+    ensures { λ names. ⌜ Counted (now (table .entry)) (now (roots .entry)) pair names ⌝ }
 {
     let mut names = no_names();
     count_roots(&mut names, roots);
-    count_others(&mut names, table, x);
+    count_others(&mut names, table, pair.x);
     count_standing(&mut names, table, standing, count);
     names
 }

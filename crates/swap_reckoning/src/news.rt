@@ -1,25 +1,19 @@
-// The new x records: which are asked for, in the order of first need, and where X(a, b) is found.
-ghost use mathlib.Core.Bool.{false};
+// The new x records: which are asked for, in the order of first need, and the reference X(a, b) that each request settles on.
 ghost use mathlib.Core.Path.{_≡_};
 ghost use Prim.Native.Nat.{_+_, _*_, _<_, _≤_};
 ghost use lib.ListN.{length, getD};
 ghost use Rattle.lists.specs.First.{first};
-ghost use Rattle.lists.specs.Fold.{fold};
-ghost use Rattle.lists.specs.Entries.{through};
-ghost use Rattle.diagrams.specs.Layout.{mostRecords, isFree, InTable};
-ghost use Rattle.swap_records.specs.Inside.{Inside, InUse};
-ghost use Rattle.swap_reckoning.specs.Reckoning.{matchesAt, newAt, notePair, noteCrossing, slotAt, settledAt};
-use diagrams::MOST_RECORDS;
+ghost use Rattle.diagrams.specs.Layout.{InTable};
+ghost use Rattle.swap_records.specs.Listed.{Inside};
+ghost use Rattle.swap_records.specs.Pairs.{PairRoom};
+ghost use Rattle.swap_reckoning.specs.Searching.{matchesAt, newAt, slotAt, Searchable, Noted};
+ghost use Rattle.swap_reckoning.specs.Reckoned.{TurnRoom, Asks, Answered, Sorted, Turn, Turns};
+use super::Counts;
 use diagrams::RecordNumber;
 use diagrams::Reference;
-use diagrams::Variable;
+use swap_records::Pair;
 use swap_records::collect;
-
-pub fn no_news() -> [u16; 4 * MOST_RECORDS]
-    ensures { λ l. ⌜ length l ≡ 4 * mostRecords ⌝ }
-{
-    [0u16; 4 * MOST_RECORDS]
-}
+use swap_records::pairs;
 
 // Is entry k of the standing records the one with low a and high b?
 fn matches(table: &[u8], standing: &[u16], k: usize, a: Reference, b: Reference) -> bool
@@ -48,10 +42,12 @@ fn find_standing(table: &[u8], standing: &[u16], count: usize, a: Reference, b: 
 
 // Is entry k of the new records the one with low a and high b?
 fn is_new(news: &[u16], k: usize, a: Reference, b: Reference) -> bool
-    requires { ⌜ 2 * k + 2 ≤ length (now news) ⌝ }
+    requires { ⌜ PairRoom (now news) k ⌝ }
     ensures { λ r. ⌜ r ≡ newAt (now (news .entry)) (a .0) (b .0) k ⌝ }
 {
-    (a.0 == collect::wide(news[2 * k])) & (b.0 == collect::wide(news[2 * k + 1]))
+    let low = pairs::low(news, k);
+    let high = pairs::high(news, k);
+    (a.0 == low.0) & (b.0 == high.0)
 }
 
 fn find_new(news: &[u16], count: usize, a: Reference, b: Reference) -> usize
@@ -68,116 +64,146 @@ fn find_new(news: &[u16], count: usize, a: Reference, b: Reference) -> usize
     count
 }
 
-// X(a, b) is asked for; the number of new records afterwards.
+// The reference of the free record that new record j goes into. Past the last one there is no room, and nobody uses the number.
+fn slot(slots: &[u16], free: usize, j: usize) -> Reference
+    requires { ⌜ free ≤ length (now slots) ⌝ }
+    ensures { λ r. ⌜ r .0 ≡ slotAt (now (slots .entry)) free j ⌝ }
+{
+    if j < free {
+        return collect::entry(slots, j).reference();
+    }
+    RecordNumber(0).reference()
+}
+
+// The reference X(a, b), and how many records are new then.
+pub struct Settled {
+    pub reference: Reference,
+    pub needed: usize,
+}
+
+// X(a, b) is asked for: a itself, a standing record, one that is new already, or one more new one.
 fn note(
     table: &[u8],
     standing: &[u16],
-    count: usize,
+    slots: &[u16],
     news: &mut [u16],
-    n: usize,
+    counts: Counts,
     a: Reference,
     b: Reference,
-) -> usize
-    requires { ⌜ (Inside (now table) (now standing) count × (2 * n + 2 ≤ length (now news))) × ((a .0 < 65536) × (b .0 < 65536)) ⌝ }
-    ensures { λ r. ⌜ (record { list = now (news .exit); count = r } ≡ notePair (now (table .entry)) (now (standing .entry)) count (record { list = now (news .entry); count = n }) (a .0) (b .0)) × (r ≤ n + 1) ⌝ }
+) -> Settled
+    requires { ⌜ Searchable (now table) (now standing) (now slots) (now news) counts × ((a .0 < 65536) × (b .0 < 65536)) ⌝ }
+    ensures { λ r. ⌜ Noted (now (table .entry)) (now (standing .entry)) (now (slots .entry)) (now (news .entry)) counts (a .0) (b .0) (now (news .exit)) r ⌝ }
 {
+    let needed = counts.needed;
     if a.0 == b.0 {
-        return n;
+        return Settled {
+            reference: a,
+            needed,
+        };
     }
-    if find_standing(table, standing, count, a, b) < count {
-        return n;
+    let count = counts.standing;
+    let k = find_standing(table, standing, count, a, b);
+    if k < count {
+        let reference = collect::entry(standing, k).reference();
+        return Settled { reference, needed };
     }
-    if find_new(news, n, a, b) < n {
-        return n;
+    let j = find_new(news, needed, a, b);
+    let reference = slot(slots, counts.free, j);
+    if j < needed {
+        return Settled { reference, needed };
     }
-    let low = a.0 as u16;
-    let high = b.0 as u16;
-    news[2 * n] = low;
-    news[2 * n + 1] = high;
-    n + 1
+    pairs::put(news, needed, a, b);
+    Settled {
+        reference,
+        needed: needed + 1,
+    }
 }
 
-// What the crossing record i asks for, low before high.
-fn note_crossing(
+// What a crossing record becomes, and how many records are new then.
+pub struct Crossed {
+    pub low: Reference,
+    pub high: Reference,
+    pub needed: usize,
+}
+
+// Record i asks for low X(f00, f10), then for high X(f01, f11).
+fn note_both(
     table: &[u8],
-    y: Variable,
+    pair: Pair,
     standing: &[u16],
-    count: usize,
+    slots: &[u16],
     news: &mut [u16],
-    n: usize,
+    counts: Counts,
     i: RecordNumber,
-) -> usize
-    requires { ⌜ (Inside (now table) (now standing) count × (2 * n + 4 ≤ length (now news))) × (InTable (now table) (i .0) × (isFree (now table) (i .0) ≡ false)) ⌝ }
-    ensures { λ r. ⌜ (record { list = now (news .exit); count = r } ≡ noteCrossing (now (table .entry)) (y .0) (now (standing .entry)) count (record { list = now (news .entry); count = n }) (i .0)) × (r ≤ n + 2) ⌝ }
+) -> Crossed
+    requires { ⌜ Asks (now table) pair (now standing) (now slots) (now news) counts (i .0) ⌝ }
+    ensures { λ r. ⌜ Answered (now (table .entry)) pair (i .0) (now (news .entry)) (counts .needed) (now (news .exit)) r ⌝ }
 {
-    let g = swap_records::four(table, y, i);
-    let settled = note(table, standing, count, news, n, g.f00, g.f10);
-    note(table, standing, count, news, settled, g.f01, g.f11)
+    let g = swap_records::four(table, pair.y, i);
+    let first = note(table, standing, slots, news, counts, g.f00, g.f10);
+    let then = counts.with(first.needed);
+    let second = note(table, standing, slots, news, then, g.f01, g.f11);
+    let low = first.reference;
+    let high = second.reference;
+    Crossed {
+        low,
+        high,
+        needed: second.needed,
+    }
 }
 
-// The new records of the whole swap; how many.
-pub fn reckon(
+// It is the turn of crossing record k; what it becomes is kept. How many records are new then.
+fn take_turn(
     table: &[u8],
-    y: Variable,
-    standing: &[u16],
-    count: usize,
+    pair: Pair,
     crossing: &[u16],
-    m: usize,
+    standing: &[u16],
+    slots: &[u16],
     news: &mut [u16],
+    kept: &mut [u16],
+    counts: Counts,
+    k: usize,
 ) -> usize
-    requires { ⌜ (Inside (now table) (now standing) count × InUse (now table) (now crossing) m) × ((m ≤ mostRecords) × (4 * mostRecords ≤ length (now news))) ⌝ }
-    ensures { λ r. ⌜ (record { list = now (news .exit); count = r } ≡ fold (through (now (crossing .entry)) (noteCrossing (now (table .entry)) (y .0) (now (standing .entry)) count)) (record { list = now (news .entry); count = 0 }) m) × (r ≤ 2 * m) ⌝ }
+    requires { ⌜ Turn (now table) pair (now crossing) (now standing) (now slots) (now news) (now kept) counts k ⌝ }
+    ensures { λ n. ⌜ Turns (now (table .entry)) pair (now (crossing .entry)) (now (news .exit)) (now (kept .exit)) n (k + 1) ⌝ }
 {
-    let mut n: usize = 0;
+    let i = collect::entry(crossing, k);
+    let r = note_both(table, pair, standing, slots, news, counts, i);
+    pairs::put(kept, k, r.low, r.high);
+    r.needed
+}
+
+// All crossing records, in rising number. How many records are new.
+pub fn take_turns(
+    table: &[u8],
+    pair: Pair,
+    crossing: &[u16],
+    standing: &[u16],
+    slots: &[u16],
+    news: &mut [u16],
+    kept: &mut [u16],
+    start: Counts,
+) -> usize
+    requires { ⌜ Sorted (now table) pair (now crossing) (now standing) (now slots) start × TurnRoom (now news) (now kept) ⌝ }
+    ensures { λ n. ⌜ Turns (now (table .entry)) pair (now (crossing .entry)) (now (news .exit)) (now (kept .exit)) n (start .crossing) ⌝ }
+{
+    let m = start.crossing;
+    let mut needed: usize = 0;
     let mut k = 0;
     while k < m {
-        n = note_crossing(
+        let counts = start.with(needed);
+        needed = take_turn(
             table,
-            y,
+            pair,
+            crossing,
             standing,
-            count,
+            slots,
             news,
-            n,
-            collect::entry(crossing, k),
+            kept,
+            counts,
+            k,
         );
         k += 1;
     }
-    n
-}
-
-// The free record that new record j goes into.
-fn slot(slots: &[u16], free: usize, j: usize) -> RecordNumber
-    requires { ⌜ free ≤ length (now slots) ⌝ }
-    ensures { λ i. ⌜ (i .0 ≡ slotAt (now (slots .entry)) free j) × (i .0 < 65536) ⌝ }
-{
-    if j < free {
-        return collect::entry(slots, j);
-    }
-    RecordNumber(0)
-}
-
-// The reference X(a, b).
-pub fn settle(
-    table: &[u8],
-    standing: &[u16],
-    count: usize,
-    news: &[u16],
-    n: usize,
-    slots: &[u16],
-    free: usize,
-    a: Reference,
-    b: Reference,
-) -> Reference
-    requires { ⌜ (Inside (now table) (now standing) count × (2 * n ≤ length (now news))) × (free ≤ length (now slots)) ⌝ }
-    ensures { λ r. ⌜ r .0 ≡ settledAt (now (table .entry)) (now (standing .entry)) count (record { list = now (news .entry); count = n }) (now (slots .entry)) free (a .0) (b .0) ⌝ }
-{
-    if a.0 == b.0 {
-        return a;
-    }
-    let k = find_standing(table, standing, count, a, b);
-    if k < count {
-        return collect::entry(standing, k).reference();
-    }
-    let j = find_new(news, n, a, b);
-    slot(slots, free, j).reference()
+    needed
 }

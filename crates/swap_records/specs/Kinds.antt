@@ -5,7 +5,7 @@ use mathlib.Core.List.{List}
 use mathlib.Core.Path.{_≡_, refl}
 use lib.Dec.{eqb}
 use Rattle.diagrams.specs.Layout.{records, variableAt, lowAt, highAt, isFree, isUsed}
-use Rattle.diagrams.specs.Node.{free, node, ref, look}
+use Rattle.diagrams.specs.Node.{free, node, pick, ref, look}
 use Rattle.diagrams.specs.Decode.{nodeAt}
 use Rattle.diagrams.specs.Lookup.{lookup, at-decode}
 use Rattle.swap_rules.specs.Record.{isOf}
@@ -21,6 +21,10 @@ crossesAt t x y i = crosses (lookup t) x y (ref i)
 
 unfoldable pub standsAt : List ℕ → ℕ → ℕ → ℕ → Bool
 standsAt t x y i = ofAt t x i && not (crossesAt t x y i)
+
+-- the child of record i, on the low side (false) or the high one (true)
+abbrev pub childAt : List ℕ → ℕ → Bool → ℕ
+childAt t i side = pick side (lowAt t i) (highAt t i)
 
 pub of-is : (t : List ℕ) (v i : ℕ) → i < records t → ofAt t v i ≡ (isUsed t i && eqb (variableAt t i) v)
 unfolding look nodeAt isOf

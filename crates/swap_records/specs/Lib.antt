@@ -1,3 +1,4 @@
 pub mod Kinds
-pub mod Inside
+pub mod Listed
 pub mod Grands
+pub mod Pairs

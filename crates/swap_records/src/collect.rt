@@ -1,28 +1,20 @@
-// The records of this swap, collected once: those of x, split into crossing and standing ones, those of y, and the free ones.
+// The records of this swap, collected once: those of x, split into crossing and standing ones, and the free ones.
 ghost use mathlib.Core.Path.{_≡_};
-ghost use Prim.Native.Nat.{_<_, _≤_};
+ghost use Prim.Native.Nat.{_+_, _<_};
 ghost use lib.ListN.{length, getD};
-ghost use Rattle.lists.specs.Collect.{Collected, Pushed};
-ghost use Rattle.diagrams.specs.Layout.{mostRecords, records, isFree};
-ghost use Rattle.swap_records.specs.Inside.{Splits};
-ghost use Rattle.swap_records.specs.Kinds.{ofAt};
+ghost use Rattle.lists.specs.Collect.{Pushed};
+ghost use Rattle.diagrams.specs.Layout.{records};
+ghost use Rattle.swap_records.specs.Listed.{RoomFor, FreeListed, Splitting, Splits};
+use super::Pair;
 use diagrams::MOST_RECORDS;
-use diagrams::RECORD_SIZE;
 use diagrams::RecordNumber;
-use diagrams::Variable;
-
-pub fn wide(x: u16) -> usize
-    ensures { λ r. ⌜ (r ≡ x) × (r < 65536) ⌝ }
-{
-    x as usize
-}
 
 // Entry k of a list of records.
 pub fn entry(list: &[u16], k: usize) -> RecordNumber
     requires { ⌜ k < length (now list) ⌝ }
     ensures { λ i. ⌜ (i .0 ≡ getD (now (list .entry)) k 0) × (i .0 < 65536) ⌝ }
 {
-    RecordNumber(wide(list[k]))
+    RecordNumber(diagrams::wide16(list[k]))
 }
 
 pub fn no_entries() -> [u16; MOST_RECORDS] {
@@ -38,34 +30,16 @@ fn push_if(list: &mut [u16], k: usize, b: bool, i: RecordNumber) -> usize
     k + diagrams::one(b)
 }
 
-pub fn collect_of(table: &[u8], v: Variable, list: &mut [u16]) -> usize
-    requires { ⌜ (records (now table) ≤ mostRecords) × (records (now table) ≤ length (now list)) ⌝ }
-    ensures { λ k. ⌜ Collected (ofAt (now (table .entry)) (v .0)) (records (now (table .entry))) (now (list .exit)) k × (k ≤ records (now (table .entry))) ⌝ }
-{
-    let m = table.len() / RECORD_SIZE;
-    let mut k: usize = 0;
-    let mut i = 0;
-    while i < m {
-        k = push_if(
-            list,
-            k,
-            super::is_record_of(table, v, RecordNumber(i)),
-            RecordNumber(i),
-        );
-        i += 1;
-    }
-    k
-}
-
 pub fn collect_free(table: &[u8], list: &mut [u16]) -> usize
-    requires { ⌜ (records (now table) ≤ mostRecords) × (records (now table) ≤ length (now list)) ⌝ }
-    ensures { λ k. ⌜ Collected (isFree (now (table .entry))) (records (now (table .entry))) (now (list .exit)) k × (k ≤ records (now (table .entry))) ⌝ }
+    requires { ⌜ RoomFor (now table) (now list) ⌝ }
+    ensures { λ k. ⌜ FreeListed (now (table .entry)) (now (list .exit)) k ⌝ }
 {
-    let m = table.len() / RECORD_SIZE;
+    let m = diagrams::count_records(table);
     let mut k: usize = 0;
     let mut i = 0;
     while i < m {
-        k = push_if(list, k, RecordNumber(i).is_free(table), RecordNumber(i));
+        let number = RecordNumber(i);
+        k = push_if(list, k, number.is_free(table), number);
         i += 1;
     }
     k
@@ -77,45 +51,43 @@ pub struct Split {
     pub standing: usize,
 }
 
-fn split_x(
+// Record i goes to the list that it belongs to, if it is a record of x.
+fn split_record(
     table: &[u8],
-    x: Variable,
-    y: Variable,
-    xs: &[u16],
-    m: usize,
+    pair: Pair,
+    i: RecordNumber,
     crossing: &mut [u16],
     standing: &mut [u16],
+    at: Split,
 ) -> Split
-    requires { ⌜ Collected (ofAt (now table) (x .0)) (records (now table)) (now xs) m × ((m ≤ length (now crossing)) × (m ≤ length (now standing))) ⌝ }
-    ensures { λ s. ⌜ Splits (now (table .entry)) (x .0) (y .0) (now (crossing .exit)) (now (standing .exit)) s × ((s .crossing ≤ m) × (s .standing ≤ m)) ⌝ }
+    requires { ⌜ Splitting (now table) pair (i .0) (now crossing) (now standing) at × (i .0 < records (now table)) ⌝ }
+    ensures { λ s. ⌜ Splitting (now (table .entry)) pair (i .0 + 1) (now (crossing .exit)) (now (standing .exit)) s ⌝ }
 {
-    let mut c: usize = 0;
-    let mut s: usize = 0;
-    let mut k = 0;
-    while k < m {
-        let i = entry(xs, k);
-        let crosses = super::is_crossing(table, x, y, i);
-        c = push_if(crossing, c, crosses, i);
-        s = push_if(standing, s, !crosses, i);
-        k += 1;
+    if !super::is_record_of(table, pair.x, i) {
+        return at;
     }
+    let crosses = super::is_crossing(table, pair, i);
+    let c = push_if(crossing, at.crossing, crosses, i);
+    let s = push_if(standing, at.standing, !crosses, i);
     Split {
         crossing: c,
         standing: s,
     }
 }
 
-pub fn collect_x(
-    table: &[u8],
-    x: Variable,
-    y: Variable,
-    crossing: &mut [u16],
-    standing: &mut [u16],
-) -> Split
-    requires { ⌜ (records (now table) ≤ mostRecords) × ((mostRecords ≤ length (now crossing)) × (mostRecords ≤ length (now standing))) ⌝ }
-    ensures { λ s. ⌜ Splits (now (table .entry)) (x .0) (y .0) (now (crossing .exit)) (now (standing .exit)) s × ((s .crossing ≤ records (now (table .entry))) × (s .standing ≤ records (now (table .entry)))) ⌝ }
+pub fn collect_x(table: &[u8], pair: Pair, crossing: &mut [u16], standing: &mut [u16]) -> Split
+    requires { ⌜ RoomFor (now table) (now crossing) × RoomFor (now table) (now standing) ⌝ }
+    ensures { λ s. ⌜ Splits (now (table .entry)) pair (now (crossing .exit)) (now (standing .exit)) s ⌝ }
 {
-    let mut xs = no_entries();
-    let m = collect_of(table, x, &mut xs);
-    split_x(table, x, y, &xs, m, crossing, standing)
+    let m = diagrams::count_records(table);
+    let mut at = Split {
+        crossing: 0,
+        standing: 0,
+    };
+    let mut i = 0;
+    while i < m {
+        at = split_record(table, pair, RecordNumber(i), crossing, standing, at);
+        i += 1;
+    }
+    at
 }

@@ -7,13 +7,20 @@ ghost use Rattle.diagrams.specs.Node.{ref};
 ghost use Rattle.diagrams.specs.Lookup.{lookup};
 ghost use Rattle.swap_rules.specs.Record.{isOf};
 ghost use Rattle.swap_rules.specs.Swap.{grandchild, crosses};
+ghost use Rattle.swap_records.specs.Kinds.{childAt};
 ghost use Rattle.swap_records.specs.Grands.{Grands};
-use diagrams::RECORD_SIZE;
 use diagrams::RecordNumber;
 use diagrams::Reference;
 use diagrams::Variable;
 
 pub mod collect;
+pub mod pairs;
+
+// The variables of the two levels that change places: x is the upper one, y the lower.
+pub struct Pair {
+    pub x: Variable,
+    pub y: Variable,
+}
 
 // Is record i a used record of v?
 pub fn is_record_of(table: &[u8], v: Variable, i: RecordNumber) -> bool
@@ -28,36 +35,41 @@ pub fn is_record_of(table: &[u8], v: Variable, i: RecordNumber) -> bool
 fn names_record_of(table: &[u8], v: Variable, x: Reference) -> bool
     ensures { λ b. ⌜ b ≡ isOf (v .0) (lookup (now (table .entry)) (x .0)) ⌝ }
 {
-    if x.is_constant() {
-        return false;
+    if x.names_record(table) {
+        return is_record_of(table, v, x.record());
     }
-    let i = x.record();
-    if table.len() / RECORD_SIZE <= i.0 {
-        return false;
-    }
-    is_record_of(table, v, i)
+    false
 }
 
-pub fn is_crossing(table: &[u8], x: Variable, y: Variable, i: RecordNumber) -> bool
+fn is_crossing(table: &[u8], pair: Pair, i: RecordNumber) -> bool
     requires { ⌜ InTable (now table) (i .0) ⌝ }
-    ensures { λ b. ⌜ b ≡ crosses (lookup (now (table .entry))) (x .0) (y .0) (ref (i .0)) ⌝ }
+    ensures { λ b. ⌜ b ≡ crosses (lookup (now (table .entry))) (pair .x .0) (pair .y .0) (ref (i .0)) ⌝ }
 {
+    let y = pair.y;
     let low = i.low(table);
     let high = i.high(table);
-    is_record_of(table, x, i) & (names_record_of(table, y, low) | names_record_of(table, y, high))
+    is_record_of(table, pair.x, i)
+        & (names_record_of(table, y, low) | names_record_of(table, y, high))
 }
 
-// The grandchild through the child c, on the low side or the high one.
+// The child of record i, on the low side or the high one.
+fn child(table: &[u8], i: RecordNumber, high: bool) -> Reference
+    requires { ⌜ InTable (now table) (i .0) ⌝ }
+    ensures { λ r. ⌜ (r .0 ≡ childAt (now (table .entry)) (i .0) high) × (r .0 < 65536) ⌝ }
+{
+    if high {
+        return i.high(table);
+    }
+    i.low(table)
+}
+
+// The grandchild through the child c, likewise.
 fn grandchild(table: &[u8], y: Variable, high: bool, c: Reference) -> Reference
     requires { ⌜ c .0 < 65536 ⌝ }
     ensures { λ r. ⌜ (r .0 ≡ grandchild (lookup (now (table .entry))) (y .0) high (c .0)) × (r .0 < 65536) ⌝ }
 {
     if names_record_of(table, y, c) {
-        let i = c.record();
-        if high {
-            return i.high(table);
-        }
-        return i.low(table);
+        return child(table, c.record(), high);
     }
     c
 }

@@ -1,21 +1,22 @@
--- A word copied to its place, and a number's digits put, over plain variables.
+-- A word copied to its place, and a number's digits, over plain variables.
 use Prim.Native.Nat.{ℕ, _+_, _≤_}
+use mathlib.Core.List.{List, _++_}
+use mathlib.Core.Path.{_≡_, ap, sym, _∙_}
+use native.Mathlib.Omega.{arith}
 use mir.Syntax.{w64}
 use mir.Val.{Fits}
 use borrow.Author.Needs.{needs}
-use Rattle.io.specs.Digits.{digits, Fewest}
-use Rattle.texts.specs.Text.{decimal}
-use Rattle.texts.specs.Short.{decimal-is}
-use mathlib.Core.List.{List, _++_}
-use mathlib.Core.Path.{_≡_, ap, _∙_}
-use native.Mathlib.Omega.{arith}
 use lib.ListN.{length, take, drop}
 use lib.Seq.{paste, length-paste, take-paste, drop-paste, take-length}
+use Rattle.io.specs.Digits.{digits, Fewest}
 use Rattle.lists.specs.Copy.{copiedTo, copied-paste}
 use Rattle.lists.specs.Fold.{Steps, steps-end}
-use Rattle.texts.specs.Put.{Put, Space}
+use Rattle.texts.specs.Text.{decimal}
+use Rattle.texts.specs.Short.{decimal-is}
+use Rattle.texts.specs.Put.{Put, space-as, put-as}
 
-pub word-put : (word a : List ℕ) {at n i : ℕ} {b : List ℕ} → Steps (copiedTo at word) a n i b → n ≤ i → n ≡ length word → at + n ≤ length a → Put a at word b (at + n)
+pub word-put : (word a : List ℕ) {at n i : ℕ} {b : List ℕ} → Steps (copiedTo at word) a n i b → n ≤ i → n ≡ length word → at + n ≤ length a
+    → Put a at word b (at + n)
 word-put word a {at} {n} {i} {b} s l e h =
     let p : b ≡ paste a at word n = steps-end s l ∙ copied-paste at word a n (omega arith) h in
     let whole : take at a ++ take n word ≡ take at a ++ word = ap (λ k. take at a ++ take k word) e ∙ ap (λ x. take at a ++ x) (take-length word) in
@@ -27,14 +28,7 @@ word-put word a {at} {n} {i} {b} s l e h =
     }
 
 -- d begins with the k digits of n, the fewest that hold it
-module _ (d : List ℕ) (k n : ℕ) (fits : Fits w64 n) (fewest : Fewest 10 1 n k) (spelt : take k d ≡ digits 10 k n) where
-  spelt-decimal : take k d ≡ decimal n
-  spelt-decimal = spelt ∙ decimal-is n k (fits .fits) fewest
+pub spelt : (d : List ℕ) (k n : ℕ) → Fits w64 n → Fewest 10 1 n k → take k d ≡ digits 10 k n → decimal n ≡ take k d
+spelt d k n fits fewest e = sym (e ∙ decimal-is n k (fits .fits) fewest)
 
-  pub digits-space : {a : List ℕ} {at : ℕ} → Space a at (decimal n) → Space a at (take k d)
-  digits-space h = rw spelt-decimal h
-
-  pub digits-put : {a b : List ℕ} {at r : ℕ} → Put a at (take k d) b r → Put a at (decimal n) b r
-  digits-put h = rw spelt-decimal at h
-
-pub ruleset spelling = (digits-space, digits-put, needs)
+pub ruleset spelling = (space-as, put-as, spelt, needs)

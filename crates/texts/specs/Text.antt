@@ -30,7 +30,7 @@ unfoldable pub inTurn : (ℕ → List ℕ) → ℕ → List ℕ
 inTurn f zero = []
 inTurn f (suc n) = inTurn f n ++ f n
 
+-- the largest number of 64 bits
 largest : decimal 18446744073709551615 ≡ bytes "18446744073709551615"
-unfolding first
-    places decimal
+unfolding first places decimal
 largest = refl

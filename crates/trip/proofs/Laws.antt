@@ -20,17 +20,19 @@ use Rattle.trip.specs.declared.Files.the-variants as files
 -- ---- all files
 
 module _ {t r o g : List ℕ} where
+  same-filled : {a b c d j k l m : ℕ} → Read a b c d ≡ Read j k l m → Filled a b c d t r o g → Filled j k l m t r o g
+  same-filled {a} {b} {c} {d} {j} {k} {l} {m} e h =
+      let p : a ≡ j = cc in
+      let q : b ≡ k = cc in
+      let u : c ≡ l = cc in
+      let v : d ≡ m = cc in
+      rw (p, q, u, v) at h
+
   pub all-within : {e f h i : File} {a b c d : ℕ} → e ≡ Bytes a → f ≡ Bytes b → h ≡ Bytes c → i ≡ Bytes d
       → Within e t → Within f r → Within h o → Within i g → AllWithin (Read a b c d) t r o g
-  all-within p q u v w x y z = record { read = λ _ _ _ _ s. same s (record { table-in = rw p at w; roots-in = rw q at x; order-in = rw u at y; target-in = rw v at z }) }
-    where
-      same : {a b c d j k l m : ℕ} → Read a b c d ≡ Read j k l m → Filled a b c d t r o g → Filled j k l m t r o g
-      same {a} {b} {c} {d} {j} {k} {l} {m} s h =
-          let p : a ≡ j = cc in
-          let q : b ≡ k = cc in
-          let u : c ≡ l = cc in
-          let v : d ≡ m = cc in
-          rw (p, q, u, v) at h
+  all-within {a = a} {b = b} {c = c} {d = d} p q u v w x y z =
+      let filled : Filled a b c d t r o g = record { table-in = rw p at w; roots-in = rw q at x; order-in = rw u at y; target-in = rw v at z } in
+      record { read = λ _ _ _ _ e. same-filled e filled }
 
   pub none-within : AllWithin files.Unreadable t r o g
   none-within = record { read = λ a b c d s. apart (cc) }

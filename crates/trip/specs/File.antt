@@ -1,12 +1,21 @@
--- What came of reading a file, and of reading all of them.
-use Prim.Native.Nat.{ℕ, _≤_}
+-- The buffers of the files, and what came of reading a file and all of them.
+use Prim.Native.Nat.{ℕ, _+_, _*_, _≤_}
 use mathlib.Core.List.{List}
 use mathlib.Core.Path.{_≡_}
 use lib.ListN.{length}
+use Rattle.diagrams.specs.Layout.{recordSize, rootSize, mostRecords, mostRoots}
+use Rattle.orders.specs.Permutation.{ceiling}
 use Rattle.trip.specs.declared.File.{File}
 use Rattle.trip.specs.declared.File.the-variants.{Bytes, Unreadable}
 use Rattle.trip.specs.declared.Files.{Files}
 use Rattle.trip.specs.declared.Files.the-variants.{Read}
+
+-- each buffer has one byte more than its file may have: a file over its limit fills it, and by its length alone is refusal 1
+pub record Buffers (t r o g : List ℕ) : Type 0 where
+  pub table : length t ≡ recordSize * mostRecords + 1
+  pub roots : length r ≡ rootSize * mostRoots + 1
+  pub order : length o ≡ ceiling + 1
+  pub target : length g ≡ ceiling + 1
 
 -- what was read of a file stands in its buffer
 abbrev pub Within : File → List ℕ → Type 0

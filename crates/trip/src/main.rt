@@ -1,6 +1,6 @@
 // Reads a store from the files of the working folder, brings it to its target and prints what came of it. It writes to no file.
 ghost use Rattle.program.specs.Program.{Held};
-ghost use Rattle.trip.specs.File.{Within, AllWithin};
+ghost use Rattle.trip.specs.File.{Buffers, Within, AllWithin};
 use diagrams::MOST_RECORDS;
 use diagrams::MOST_ROOTS;
 use diagrams::RECORD_SIZE;
@@ -63,6 +63,7 @@ enum Files {
 }
 
 fn load_all(table: &mut [u8], roots: &mut [u8], order: &mut [u8], target: &mut [u8]) -> Files
+    requires { ⌜ Buffers (now table) (now roots) (now order) (now target) ⌝ }
     ensures { λ f. ⌜ AllWithin f (now (table .exit)) (now (roots .exit)) (now (order .exit)) (now (target .exit)) ⌝ }
 {
     let File::Bytes(table_bytes) = load(b"trip.nod", table) else {

@@ -1,4 +1,3 @@
-use native.Mathlib.Omega.{arith}
 use borrow.Author.Needs.{needs}
 use Rattle.swap_records.proofs.Laws.{crossing-at}
 use Rattle.swap_records.proofs.is_crossing.Statement.{statement}
@@ -13,4 +12,4 @@ is-crossing-spec =
     (λ c κs. search needs)
     (λ c κs. search needs)
     (λ c κs. search needs)
-    (λ c. crossing-at _ _ _ _ (c .before .before .is-record-of .ensures) (c .before .before .before .before .low .ensures .0) (c .before .names-record-of .ensures) (c .before .before .before .high .ensures .0) (c .names-record-of2 .ensures) (omega arith)))
+    (λ c. search (crossing-at, needs)))

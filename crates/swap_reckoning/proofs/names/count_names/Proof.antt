@@ -1,5 +1,6 @@
 use borrow.Author.Needs.{needs}
-use Rattle.swap_reckoning.proofs.Laws.{room-roots, room-others, room-standing, named-all}
+use Rattle.swap_records.specs.Listed.{inside-of}
+use Rattle.swap_reckoning.specs.Dying.{room-roots, room-others, room-standing, counted}
 use Rattle.swap_reckoning.proofs.names.count_names.Statement.{statement}
 use Rattle.swap_reckoning.proofs.names.count_names.Tie as tie
 
@@ -9,9 +10,9 @@ count-names-spec =
     (tie.spec
     (λ c κs. search needs)
     (λ c. search needs)
-    (λ c κs. room-roots (c .before .before .before .before .before .pre .0) (c .before .no-names .ensures))
+    (λ c κs. search room-roots)
     (λ c. search needs)
-    (λ c κs. room-others (c .before .before .before .before .before .before .before .before .pre .0) (c .before .before .before .before .no-names .ensures) (c .before .before .count-roots .ensures))
+    (λ c κs. search room-others)
     (λ c. search needs)
-    (λ c κs. (c .before .before .before .before .before .before .before .before .before .before .before .pre .1 .0, room-standing (c .before .before .before .before .before .before .before .before .before .before .before .pre .0) (c .before .before .before .before .before .before .before .no-names .ensures) (c .before .before .before .before .before .count-roots .ensures) (c .before .before .before .before .before .before .before .before .before .before .before .args .x .0) (c .before .before .count-others .ensures) (c .before .before .before .before .before .before .before .before .before .before .before .pre .1 .1)))
-    (λ c. named-all (c .before .before .before .before .before .before .before .before .before .before .before .before .before .pre .0) (c .before .before .before .before .before .before .before .before .before .no-names .ensures) (c .before .before .before .before .before .before .before .count-roots .ensures) (c .before .before .before .before .before .before .before .before .before .before .before .before .before .args .x .0) (c .before .before .before .before .count-others .ensures) (c .before .before .before .before .before .before .before .before .before .before .before .before .before .args .standing .now) (c .before .before .before .before .before .before .before .before .before .before .before .before .before .args .count) (c .before .count-standing .ensures)))
+    (λ c κs. search (inside-of, room-standing))
+    (λ c. search counted))

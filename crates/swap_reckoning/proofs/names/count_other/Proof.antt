@@ -1,4 +1,5 @@
-use Rattle.swap_reckoning.proofs.Laws.{naming}
+use borrow.Author.Needs.{needs}
+use Rattle.swap_reckoning.proofs.Laws.{other-counts, other-passes}
 use Rattle.swap_reckoning.proofs.names.count_other.Statement.{statement}
 use Rattle.swap_reckoning.proofs.names.count_other.Tie as tie
 
@@ -6,9 +7,9 @@ pub count-other-spec : {M : Type 1} → statement M
 count-other-spec =
     tie.close
     (tie.spec
-    (λ c κs. search naming)
-    (λ c κs. search naming)
-    (λ c κs. search naming)
-    (λ c. search naming)
-    (λ c. search naming)
-    (λ c. search naming))
+    (λ c κs. search needs)
+    (λ c κs. search needs)
+    (λ c κs. search needs)
+    (λ c. search needs)
+    (λ c. search other-counts)
+    (λ c. search other-passes))

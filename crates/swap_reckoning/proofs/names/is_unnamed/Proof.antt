@@ -1,5 +1,5 @@
 use borrow.Author.Needs.{needs}
-use Rattle.swap_reckoning.specs.Reckoning.{unnamed}
+use Rattle.swap_reckoning.specs.Naming.{unnamed}
 use Rattle.swap_reckoning.proofs.names.is_unnamed.Statement.{statement}
 use Rattle.swap_reckoning.proofs.names.is_unnamed.Tie as tie
 

@@ -5,4 +5,7 @@ use Rattle.swap_reckoning.proofs.names.no_names.Tie as tie
 
 pub no-names-spec : {M : Type 1} → statement M
 unfolding noNotes
-no-names-spec = tie.close (tie.spec (λ c. search needs))
+no-names-spec =
+    tie.close
+    (tie.spec
+    (λ c. search needs))

@@ -1,6 +1,6 @@
 use Prim.Native.Nat.{_-_}
 use Rattle.lists.specs.First.{Scan, scan}
-use Rattle.swap_reckoning.specs.Reckoning.{newAt}
+use Rattle.swap_reckoning.specs.Searching.{newAt}
 use Rattle.swap_reckoning.proofs.news.find_new.Statement.{statement}
 use Rattle.swap_reckoning.proofs.news.find_new.Tie as tie
 

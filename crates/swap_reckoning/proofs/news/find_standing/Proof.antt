@@ -1,7 +1,7 @@
 use Prim.Native.Nat.{_-_}
 use Rattle.lists.specs.First.{Scan, scan}
-use Rattle.swap_records.specs.Inside.{entries}
-use Rattle.swap_reckoning.specs.Reckoning.{matchesAt}
+use Rattle.swap_records.specs.Listed.{entries}
+use Rattle.swap_reckoning.specs.Searching.{matchesAt}
 use Rattle.swap_reckoning.proofs.news.find_standing.Statement.{statement}
 use Rattle.swap_reckoning.proofs.news.find_standing.Tie as tie
 

@@ -1,5 +1,5 @@
 use borrow.Author.Needs.{needs}
-use Rattle.swap_reckoning.specs.Reckoning.{matchesAt}
+use Rattle.swap_reckoning.specs.Searching.{matchesAt}
 use Rattle.swap_reckoning.proofs.news.matches.Statement.{statement}
 use Rattle.swap_reckoning.proofs.news.matches.Tie as tie
 
