@@ -17,7 +17,7 @@ use Rattle.diagrams.specs.Node.{free, pick, at, ref}
 use Rattle.diagrams.specs.References.{namesRecord, from-two, number-small, not-inside, naming}
 use Rattle.diagrams.specs.Decode.{decode}
 use Rattle.diagrams.specs.Lookup.{lookup, node-of, free-of, past-of}
-use Rattle.diagrams.specs.Reduced.{look-plain}
+use Rattle.diagrams.specs.Reduced.{look-ends}
 use Rattle.diagrams.specs.Value.{chosen, met, value}
 use Rattle.diagrams.specs.Falls.{value-terminal}
 use Rattle.checks.specs.Stages.{refusal, stageAt, verdictOf, row-refuses, row-passes, place-refuses, place-passes}
@@ -46,7 +46,7 @@ module _ (t : List ℕ) (inputs : ℕ → Bool) (x : ℕ) where
     pub nothing-stays : b ≡ false → x ≡ chosen inputs (lookup t x) x
     nothing-stays h =
         either-side x 2
-        (λ l. stays (look-plain (at (decode t)) x l))
+        (λ l. stays (look-ends (at (decode t)) x l))
         (λ l. let z : x ≡ ref (x - 2) = omega arith in stays (ap (lookup t) z ∙ past-of t (x - 2) (not-inside t x flag h l)))
 
     -- it names record i
@@ -77,7 +77,7 @@ pub ruleset taking = (not-true, not-false, nothing-stays, free-stays, takes-high
 
 module _ (t : List ℕ) (inputs : ℕ → Bool) where
   pub constant-value : {b : Bool} (n x : ℕ) → b ≡ ltb x 2 → b ≡ true → eqb x 1 ≡ value (lookup t) inputs n x
-  constant-value n x e h = sym (value-terminal (lookup t) inputs n x (look-plain (at (decode t)) x (ltb-true x 2 (sym e ∙ h))))
+  constant-value n x e h = sym (value-terminal (lookup t) inputs n x (look-ends (at (decode t)) x (ltb-true x 2 (sym e ∙ h))))
 
   pub spent-value : (n x : ℕ) → n ≡ 0 → eqb x 1 ≡ value (lookup t) inputs n x
   unfolding value met

@@ -16,7 +16,7 @@ use Rattle.diagrams.specs.Node.{Constant, at}
 use Rattle.diagrams.specs.Decode.{decode}
 use Rattle.diagrams.specs.Lookup.{lookup, length-roots, root-is}
 use Rattle.diagrams.specs.Bryant.{Vertex}
-use Rattle.diagrams.specs.Reduced.{look-plain}
+use Rattle.diagrams.specs.Reduced.{look-ends}
 use Rattle.diagrams.specs.Value.{met, value, Value}
 use Rattle.diagrams.specs.Falls.{meets-terminal, value-is, value-unique}
 use Rattle.checks.specs.Stages.{refusal, stageAt, verdictOf, AllPass, FailsFirst, none, also, both-rows, only-passed, passed-only}
@@ -65,11 +65,11 @@ module _ (t r o : List ℕ) (usable : Usable t r o) (position : ℕ) (there : po
       rw (root-is r position there) at (usable .bryant .graph .rooted _ (record { index = position; below = rw (length-roots r) there; holds = refl }))
 
   pub meets-constant : (inputs : ℕ → Bool) → Constant (met (lookup t) inputs (length o) (rootAt r position))
-  meets-constant inputs = meets-terminal (look-plain (at (decode t))) (usable .bryant .graph) inputs (rootAt r position) root-vertex
+  meets-constant inputs = meets-terminal (look-ends (at (decode t))) (usable .bryant .graph) inputs (rootAt r position) root-vertex
 
   -- so what Read computes within n levels is the root's value, which has no bound in it
   pub root-value : (inputs : ℕ → Bool) → Value (lookup t) inputs (rootAt r position) (value (lookup t) inputs (length o) (rootAt r position))
-  root-value inputs = value-is (look-plain (at (decode t))) (usable .bryant .graph) inputs (rootAt r position) root-vertex
+  root-value inputs = value-is (look-ends (at (decode t))) (usable .bryant .graph) inputs (rootAt r position) root-vertex
 
 -- ---- Read answers a value exactly for a table that the relay can use, a root that is there and good inputs: the root's value
 
@@ -89,7 +89,7 @@ module _ (t r o : List ℕ) (position : ℕ) (inputs : List ℕ) where
   -- the root's value is the one that Read computes
   computed : {b : Bool} → Reads t r o position inputs b → rootValue t r o position inputs ≡ b
   unfolding rootValue
-  computed w = value-unique (look-plain (at (decode t))) (root-value t r o (w .usable) position (w .there) (inputOf inputs)) (w .value)
+  computed w = value-unique (look-ends (at (decode t))) (root-value t r o (w .usable) position (w .there) (inputOf inputs)) (w .value)
 
   read-clear : {b : Bool} → Reads t r o position inputs b → verdictOf (readStages t r o position inputs) ≡ verdict.Clear
   unfolding readStages

@@ -31,9 +31,8 @@ use Rattle.check_names.specs.Names.{idle}
 use Rattle.checks.specs.Stages.{only, verdictFrom}
 use Rattle.checks.specs.Check.{tableStages, used}
 use Rattle.swap_rules.specs.Record.{lowOf, highOf, isFreeNode, isOf, same}
-use Rattle.swap_rules.specs.Swap as one
-use Rattle.swap_rules.specs.Swap.{xAt, yAt, grandchild, f00, f01, f10, f11, crosses, asked, stands, isNew, wanted, news, names, dies, slots, slotOf}
-use Rattle.swap_rules.specs.Swap.{X, becomes, needed, freeCount, fits, turn, filled, swapped}
+use Rattle.swap_rules.specs.Swap.{xAt, yAt, grandchild, f00, f01, f10, f11, crosses, asked, stands, isNew, wanted, news, stillNames, dies, slots, slotOf}
+use Rattle.swap_rules.specs.Swap.{X, becomes, needed, freeCount, fits, slotIndex, filled, recordAfter, swapped}
 use Rattle.swaps.specs.Outcome.{neededIn, wayOf, lack, tableAfter}
 use Rattle.slice_rules.specs.Slices as over
 use Rattle.slice_rules.specs.Slices.{arrived, next, goes, made, leaves, slice}
@@ -74,7 +73,7 @@ unfoldable pub outcome : Row → Outcome
 unfolding nodeAt decode eight encode rootsOf runOf runStages badRunSizes badSizes only verdictFrom holdsAt badPlace levelOf tableStages dead malformed
     notUnder notBelow lowIsHigh sameRecord repeats deadRoot rootNames recordNames idle ranTo answerOf relay slice leaves over.judge made goes next arrived
     same? differsAt bringUp firstDifference exchange left inverted pairs total first count tabulate keep once each which look lowOf highOf isFreeNode isOf same
-    grandchild f00 f01 f10 f11 crosses asked stands isNew wanted news names dies slots slotOf X becomes needed freeCount fits turn filled one.after swapped
+    grandchild f00 f01 f10 f11 crosses asked stands isNew wanted news stillNames dies slots slotOf X becomes needed freeCount fits slotIndex filled recordAfter swapped
     wayOf tableAfter namesRecord
 outcome row =
     let g = row .given in

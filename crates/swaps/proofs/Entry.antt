@@ -32,7 +32,7 @@ use Rattle.checks.specs.declared.Refusal.{Refusal}
 use Rattle.checks.specs.declared.Verdict.{Verdict}
 use Rattle.checks.specs.declared.Verdict.the-variants as verdict
 use Rattle.diagrams.specs.Edition.{plain}
-use Rattle.swap_rules.specs.Swap.{xAt, yAt, after, swapped}
+use Rattle.swap_rules.specs.Swap.{xAt, yAt, recordAfter, swapped}
 use Rattle.swap_reckoning.specs.Reckoning.{News, namesOf, rewritten}
 use Rattle.swap_reckoning.specs.Reckoned.{Reckoned, needed-is, free-count-is, fits-is, rewritten-is}
 use Rattle.swaps.specs.Bytes.{length-decode}
@@ -73,7 +73,7 @@ module _ {t : List ℕ} {x y : ℕ} {standing : List ℕ} {m : ℕ} {p : News} {
     unfolding swapped nodes
     swapped-nodes =
         tabulate-agrees (records t) _ _ (λ i b. rewritten-is R r names names-are fewer i b)
-        ∙ ap (λ n. tabulate n (after plain (at (decode t)) n x y (rootsOf r))) (sym (length-decode t))
+        ∙ ap (λ n. tabulate n (recordAfter plain (at (decode t)) n x y (rootsOf r))) (sym (length-decode t))
 
     long-encode : length (encode (tabulate (records t) nodes)) ≡ length t
     long-encode = length-encode (tabulate (records t) nodes) ∙ ap (λ n. recordSize * n) (length-tabulate (records t) nodes) ∙ omega arith
