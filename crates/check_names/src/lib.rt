@@ -1,4 +1,5 @@
-// Check 9: the first used record that nobody names. Each reference that a root or a used record names is marked, in one pass; then each used record looks at its mark.
+// Check 9: the first used record that nobody names. Each reference that a root or a used record names is marked in one pass;
+// then each used record looks at its mark.
 ghost use mathlib.Core.Path.{_≡_};
 ghost use Prim.Native.Nat.{_+_, _<_, _≤_};
 ghost use lib.ListN.{length, set};

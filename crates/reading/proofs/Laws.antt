@@ -25,8 +25,9 @@ use Rattle.checks.specs.Check.{checkStages}
 use Rattle.checks.specs.declared.Refusal.{Refusal}
 use Rattle.checks.specs.declared.Verdict.{Verdict}
 use Rattle.checks.specs.declared.Verdict.the-variants as verdict
-use Rattle.reading.specs.Read.{inputOf, noRoot, badInputs, readStages, rootValue, readAfter, readOf}
+use Rattle.reading.specs.Read.{inputOf, noRoot, badInputs, readStages, rootValue, readAfter, readOf, ReadOutcome}
 use Rattle.reading.specs.Parts.{refused-part, no-root-part, constant-part, record-part, root-inside, record-ends}
+use Rattle.reading.specs.declared.ReadAnswer.{ReadAnswer}
 use Rattle.reading.specs.declared.ReadAnswer.the-variants.{Value, Refused}
 
 -- ---- an input
@@ -83,7 +84,8 @@ module _ (t : List ℕ) (inputs : ℕ → Bool) where
   unfolding value met
   spent-value n x e = rw e
 
-  pub child-value : {b : Bool} {y : ℕ} (n x : ℕ) → y ≡ chosen inputs (lookup t x) x → b ≡ value (lookup t) inputs (n - 1) y → 0 < n → b ≡ value (lookup t) inputs n x
+  pub child-value : {b : Bool} {y : ℕ} (n x : ℕ) → y ≡ chosen inputs (lookup t x) x → b ≡ value (lookup t) inputs (n - 1) y → 0 < n
+      → b ≡ value (lookup t) inputs n x
   unfolding value met
   child-value zero x e p h = absurd (omega arith)
   child-value (suc n) x e p h = rw (sub-one, e) at p
@@ -91,34 +93,39 @@ module _ (t : List ℕ) (inputs : ℕ → Bool) where
 -- ---- what Read answers
 
 module _ (t r o : List ℕ) (position : ℕ) (inputs : List ℕ) {v : Verdict} (checked : v ≡ verdictOf (checkStages t r o)) where
-  by : {w : Verdict} → w ≡ verdictOf (readStages t r o position inputs) → readAfter w (rootValue t r o position inputs) ≡ readOf t r o position inputs
-  unfolding readOf
-  by e = ap (λ u. readAfter u (rootValue t r o position inputs)) e
+  abbrev Answers : ReadAnswer → Type 0
+  Answers a = ReadOutcome t r o position inputs a
 
-  pub read-refused : (w : Refusal) → v ≡ verdict.Refused w → Refused w ≡ readOf t r o position inputs
+  abbrev after : Verdict → ReadAnswer
+  after w = readAfter w (rootValue t r o position inputs)
+
+  by : {w : Verdict} → w ≡ verdictOf (readStages t r o position inputs) → Answers (after w)
+  unfolding readOf
+  by e = ap after e
+
+  pub read-refused : (w : Refusal) → v ≡ verdict.Refused w → Answers (Refused w)
   unfolding readStages
   read-refused w h = by (row-refuses (checkStages t r o) _ w checked h)
 
   module _ {m : ℕ} (clear : v ≡ verdict.Clear) (counted : m ≡ rootCount r) where
-    then : {w : Verdict} → w ≡ verdictOf (stageAt 10 position (noRoot r position) ∷ stageAt 11 0 (badInputs o inputs) ∷ [])
-        → readAfter w (rootValue t r o position inputs) ≡ readOf t r o position inputs
+    by-10 : {w : Verdict} → w ≡ verdictOf (stageAt 10 position (noRoot r position) ∷ stageAt 11 0 (badInputs o inputs) ∷ []) → Answers (after w)
     unfolding readStages
-    then e = by (row-passes (checkStages t r o) _ checked clear e)
+    by-10 e = by (row-passes (checkStages t r o) _ checked clear e)
 
-    pub read-no-root : m ≤ position → Refused (refusal 10 position) ≡ readOf t r o position inputs
-    read-no-root l = then (place-refuses 10 position (noRoot r position) true _ (sym (le-leb (rootCount r) position (omega arith))) refl)
+    pub read-no-root : m ≤ position → Answers (Refused (refusal 10 position))
+    read-no-root l = by-10 (place-refuses 10 position (noRoot r position) true _ (sym (le-leb (rootCount r) position (omega arith))) refl)
 
     module _ {b : Bool} (flag : b ≡ badInputs o inputs) (there : position < m) where
-      past : {w : Verdict} → w ≡ verdictOf (stageAt 11 0 (badInputs o inputs) ∷ []) → readAfter w (rootValue t r o position inputs) ≡ readOf t r o position inputs
-      past e = then (place-passes 10 position (noRoot r position) false _ _ (sym (lt-leb (rootCount r) position (omega arith))) refl e)
+      by-11 : {w : Verdict} → w ≡ verdictOf (stageAt 11 0 (badInputs o inputs) ∷ []) → Answers (after w)
+      by-11 e = by-10 (place-passes 10 position (noRoot r position) false _ _ (sym (lt-leb (rootCount r) position (omega arith))) refl e)
 
-      pub read-bad-inputs : b ≡ true → Refused (refusal 11 0) ≡ readOf t r o position inputs
-      read-bad-inputs h = past (place-refuses 11 0 (badInputs o inputs) b _ flag h)
+      pub read-bad-inputs : b ≡ true → Answers (Refused (refusal 11 0))
+      read-bad-inputs h = by-11 (place-refuses 11 0 (badInputs o inputs) b _ flag h)
 
       pub read-value : {x n : ℕ} {d : Bool} → b ≡ false → x ≡ rootAt r position → d ≡ value (lookup t) (inputOf inputs) (length o) x → n ≡ bit d
-          → Value n ≡ readOf t r o position inputs
+          → Answers (Value n)
       unfolding rootValue
-      read-value h is says e = ap Value (e ∙ ap bit (says ∙ ap (value (lookup t) (inputOf inputs) (length o)) is)) ∙ past (place-passes 11 0 (badInputs o inputs) b _ _ flag h refl)
+      read-value h is says e = rw (e, says, is) (by-11 (place-passes 11 0 (badInputs o inputs) b _ _ flag h refl))
 
 pub ruleset reading = (read-refused, read-no-root, read-bad-inputs, read-value)
 

@@ -200,7 +200,12 @@ module _ (t r o : List ℕ) (position : ℕ) where
 
     -- in every case a part of the caller's own table, from the part's offset on
     pub show-lent : Lent t table pointer (partOf t r o position .0) bytes
-    show-lent = record { block = ap (λ (p : ℕ × ℕ). p .0) (s .the-pointer); moved = ap (λ (p : ℕ × ℕ). p .1) (s .the-pointer); long = long shown; within = within shown }
+    show-lent = record {
+      block = ap (λ (p : ℕ × ℕ). p .0) (s .the-pointer);
+      moved = ap (λ (p : ℕ × ℕ). p .1) (s .the-pointer);
+      long = long shown;
+      within = within shown;
+    }
       where
         long : Shown t r o position → (length bytes ≡ 0) ⊎ (length bytes ≡ recordSize)
         long (nothing m e) = inl (ap length (show-empty-if m))

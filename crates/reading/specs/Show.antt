@@ -1,11 +1,11 @@
 -- Show: the part of the caller's own table that is the record of a root; an empty part where the table is refused, there is no such root,
 -- or the root is a constant.
-use Prim.Native.Nat.{ℕ, _+_, _-_, _*_}
+use Prim.Native.Nat.{ℕ, _+_, _-_, _*_, _≤_}
 use mathlib.Core.Bool.{Bool, true, false, cond, _&&_}
 use mathlib.Core.List.{List, [], _∷_, _++_}
 use mathlib.Core.Path.{_≡_}
 use lib.Dec.{leb}
-use lib.ListN.{take, drop}
+use lib.ListN.{length, take, drop}
 use Rattle.diagrams.specs.Layout.{recordSize, rootAt}
 use Rattle.checks.specs.Stages.{Stage, stageAt, verdictOf}
 use Rattle.checks.specs.Check.{checkStages}
@@ -35,6 +35,12 @@ partAt i = record { 0 = recordSize * i; 1 = recordSize * i + recordSize }
 -- where the part that is handed back begins and ends
 unfoldable pub partOf : List ℕ → List ℕ → List ℕ → ℕ → Part
 partOf t r o position = cond (shows t r o position) (partAt (rootAt r position - 2)) noPart
+
+-- where the part begins and ends, for code: it lies in the table
+pub record PartOutcome (t r o : List ℕ) (position : ℕ) (p : Part) : Type 0 where
+  pub is : p ≡ partOf t r o position
+  pub begins : p .0 ≤ p .1
+  pub ends : p .1 ≤ length t
 
 -- what Show may hand back: these bytes, by this pointer into the caller's own table (a pointer is a block and a byte in it)
 pub record ShowOutcome (t r o : List ℕ) (position : ℕ) (table pointer : ℕ × ℕ) (bytes : List ℕ) : Type 0 where

@@ -4,7 +4,7 @@ use mathlib.Core.Bool.{Bool, true, false}
 use mathlib.Core.List.{List, [], _∷_}
 use mathlib.Core.Logic.{_⊎_, inl, inr, ⊎-elim}
 use mathlib.Core.Path.{_≡_, refl, ap, sym, _∙_}
-use native.Mathlib.Nat.{lt-of-not-le, not-le-of-lt}
+use native.Mathlib.Nat.{not-le-of-lt}
 use native.Mathlib.Omega.{arith}
 use borrow.Author.Tests.{leb-false}
 use lib.ListN.{length, getD}
@@ -14,7 +14,7 @@ use Rattle.lists.specs.Says.{Says, Some, says, says-eqb, refutes, denies, stabl
 use Rattle.diagrams.specs.Layout.{mostRecords, rootCount, rootAt}
 use Rattle.diagrams.specs.Node.{Constant, at}
 use Rattle.diagrams.specs.Decode.{decode}
-use Rattle.diagrams.specs.Lookup.{lookup, length-roots, root-is}
+use Rattle.diagrams.specs.Lookup.{lookup}
 use Rattle.diagrams.specs.Bryant.{Vertex}
 use Rattle.diagrams.specs.Reduced.{look-ends}
 use Rattle.diagrams.specs.Value.{met, value, Value}
@@ -23,7 +23,7 @@ use Rattle.checks.specs.Stages.{refusal, stageAt, verdictOf, AllPass, FailsFirs
 use Rattle.checks.specs.Stages.{clear-if, clear-only, refused-if, refused-only, row-passes}
 use Rattle.checks.specs.Check.{checkStages}
 use Rattle.checks.specs.Theorems.{Bounded, refusal-small}
-use Rattle.checks.specs.Usable.{Usable, usable-if, usable-then, all-pass, passes-all}
+use Rattle.checks.specs.Usable.{Usable, usable-if, usable-then, all-pass, passes-all, root-among}
 use Rattle.checks.specs.declared.Refusal.{Refusal}
 use Rattle.checks.specs.declared.Verdict.{Verdict}
 use Rattle.checks.specs.declared.Verdict.the-variants as verdict
@@ -61,8 +61,7 @@ good-inputs-then o inputs g =
 
 module _ (t r o : List ℕ) (usable : Usable t r o) (position : ℕ) (there : position < rootCount r) where
   root-vertex : Vertex Constant (lookup t) (rootAt r position)
-  root-vertex =
-      rw (root-is r position there) at (usable .bryant .graph .rooted _ (record { index = position; below = rw (length-roots r) there; holds = refl }))
+  root-vertex = usable .bryant .graph .rooted (rootAt r position) (root-among r position there)
 
   pub meets-constant : (inputs : ℕ → Bool) → Constant (met (lookup t) inputs (length o) (rootAt r position))
   meets-constant inputs = meets-terminal (look-ends (at (decode t))) (usable .bryant .graph) inputs (rootAt r position) root-vertex
@@ -117,7 +116,12 @@ module _ (t r o : List ℕ) (position : ℕ) (inputs : List ℕ) where
       go (checks, also root (also good none)) =
           let usable : Usable t r o = usable-if t r o (passes-all t r o checks) in
           let there : position < rootCount r = leb-false (rootCount r) position (passed-only position root) in
-          record { usable = usable; there = there; good = good-inputs-if o inputs (passed-only 0 good); value = root-value t r o usable position there (inputOf inputs) }
+          record {
+            usable = usable;
+            there = there;
+            good = good-inputs-if o inputs (passed-only 0 good);
+            value = root-value t r o usable position there (inputOf inputs);
+          }
 
   -- a value is 0 or 1
   pub reads-bit : {n : ℕ} → readOf t r o position inputs ≡ reading.Value n → (b : Bool) × (n ≡ bit b) × Reads t r o position inputs b

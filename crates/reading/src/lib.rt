@@ -1,12 +1,12 @@
 // Read the value of a root under inputs, and show a root's record.
 ghost use mathlib.Core.Path.{_≡_};
-ghost use Prim.Native.Nat.{_≤_, _<_};
+ghost use Prim.Native.Nat.{_<_};
 ghost use lib.ListN.{length};
 ghost use Rattle.lists.specs.First.{first};
 ghost use Rattle.diagrams.specs.Lookup.{lookup};
 ghost use Rattle.diagrams.specs.Value.{chosen, value};
 ghost use Rattle.reading.specs.Read.{inputOf, noInput, badInputs, ReadOutcome};
-ghost use Rattle.reading.specs.Show.{partOf, ShowOutcome};
+ghost use Rattle.reading.specs.Show.{PartOutcome, ShowOutcome};
 use checks::Refusal;
 use checks::Verdict;
 use diagrams::RECORD_SIZE;
@@ -120,7 +120,7 @@ pub fn read(table: &[u8], roots: &[u8], order: &[u8], position: usize, inputs: &
 
 // Where the record of a root lies in the table; 0 to 0 where there is nothing to show.
 pub fn shown_part(table: &[u8], roots: &[u8], order: &[u8], position: usize) -> Part
-    ensures { λ p. ⌜ (p ≡ partOf (now (table .entry)) (now (roots .entry)) (now (order .entry)) position) × ((p .0 ≤ p .1) × (p .1 ≤ length (now (table .entry)))) ⌝ }
+    ensures { λ p. ⌜ PartOutcome (now (table .entry)) (now (roots .entry)) (now (order .entry)) position p ⌝ }
 {
     let verdict = checks::verdict_of_all(table, roots, order);
     if let Verdict::Refused(_) = verdict {

@@ -23,7 +23,8 @@ abbrev below : ℕ → In 2 kinds.ps
 below t = and 2 kinds.ps (falls 2 kinds.ps _<_ μ-reads-true t) reads-true.Pre
 
 pub +reads-true-spec : {M : Type 1} → statement M
-+reads-true-spec = close μ-reads-true λ t. lts.spec (is-constant.Asked, is-constant.Learnt, child.Asked, child.Learnt, below t, reads-true.Post) (at t) reads-true.Post
++reads-true-spec =
+    close μ-reads-true λ t. lts.spec (is-constant.Asked, is-constant.Learnt, child.Asked, child.Learnt, below t, reads-true.Post) (at t) reads-true.Post
     (λ c κs. search needs)
     (λ c. search constant-value)
     (λ c. search spent-value)
