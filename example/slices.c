@@ -10,25 +10,25 @@ int main(void)
     const uint8_t roots[2] = {3, 0};
     uint8_t order[2] = {0, 1};
     const uint8_t target[2] = {1, 0};
-    uint32_t answer[6];
+    uint32_t answer[RELAY_RUN_NUMBERS];
 
-    relay_check(table, sizeof table, roots, sizeof roots, order, sizeof order, answer, 6);
-    if (answer[0] != 0) {
+    relay_check(table, sizeof table, roots, sizeof roots, order, sizeof order, answer, RELAY_RUN_NUMBERS);
+    if (answer[0] != RELAY_ACCEPTED) {
         printf("refused %u place %u\n", (unsigned)answer[0], (unsigned)answer[1]);
         return 1;
     }
     do {
         relay_run(table, sizeof table, roots, sizeof roots, order, sizeof order,
-                  target, sizeof target, 8, answer, 6);
+                  target, sizeof target, 8, answer, RELAY_RUN_NUMBERS);
         /* the next protection pass goes here */
-    } while (answer[0] == 101);
+    } while (answer[0] == RELAY_PAUSED);
 
-    if (answer[0] == 100) {
+    if (answer[0] == RELAY_NO_ROOM) {
         printf("no room at level %u: needed %u, free %u\n",
                (unsigned)answer[3], (unsigned)answer[4], (unsigned)answer[5]);
         return 1;
     }
-    if (answer[0] != 0) { /* refusal 1 or 3: the target, which relay_check hasn't seen */
+    if (answer[0] != RELAY_DONE) { /* refusal 1 or 3: the target, which relay_check hasn't seen */
         printf("refused %u place %u\n", (unsigned)answer[0], (unsigned)answer[1]);
         return 1;
     }

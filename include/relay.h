@@ -1,8 +1,17 @@
-/* The logic store of a generator protection relay: calls for C.
+/* The logic store of a generator protection relay: calls for C and C++.
  *
- * A buffer is lent as a pointer and a length; a pointer is never null, not even where the length is 0.
- * Every call takes any bytes: it answers, and never fails. None keeps a pointer.
- * A buffer that a call may change shares no byte with another one lent to it.
+ * What is stored. Numbers are little-endian; docs/RULES.md has all of it.
+ *   table   up to RELAY_MOST_RECORDS records of RELAY_RECORD_SIZE bytes: byte 0 the variable, bytes 2 and 3 the low
+ *           reference, 4 and 5 the high one, the rest 0. A free record is RELAY_FREE and seven zeros.
+ *   roots   up to RELAY_MOST_ROOTS references of RELAY_ROOT_SIZE bytes, one for each output.
+ *   order   n bytes, n from 1 to RELAY_MOST_VARIABLES: byte k is the variable at level k; level 0 is the top.
+ *   target  n bytes, the order that a run goes towards.
+ * A reference is RELAY_FALSE, RELAY_TRUE, or RELAY_FIRST_RECORD + i for record i. A record takes its low reference where its
+ * variable's input is 0, its high one where it is 1.
+ *
+ * How a call is made. A buffer is lent as a pointer and a length; a pointer is never null, not even where the length is 0.
+ * Every call takes any bytes: it answers, and never fails. None keeps a pointer, and none has state of its own.
+ * A buffer that a call may change shares no byte with another one lent to it, and nobody else reads it meanwhile.
  * An answer is a list of numbers, written to the front of the lent list `answer`; the call returns how many.
  * Entries beyond them stay as they are. A list too short for the call's longest answer is answered 0, with
  * nothing written to it and nothing changed in any buffer.
@@ -13,12 +22,56 @@
 #include <stddef.h>
 #include <stdint.h>
 
+#define RELAY_VERSION 1u
+
+/* Sizes and limits. */
+#define RELAY_RECORD_SIZE 8u
+#define RELAY_ROOT_SIZE 2u
+#define RELAY_MOST_RECORDS 4096u
+#define RELAY_MOST_ROOTS 64u
+#define RELAY_MOST_VARIABLES 32u
+
+/* The variable of a free record; the references of the constants and of record 0. */
+#define RELAY_FREE 255u
+#define RELAY_FALSE 0u
+#define RELAY_TRUE 1u
+#define RELAY_FIRST_RECORD 2u
+
+/* The first number of an answer: what came of the call, or the number of a refusal. */
+#define RELAY_ACCEPTED 0u /* Check */
+#define RELAY_VALUE 0u    /* Read */
+#define RELAY_MADE 0u     /* Swap */
+#define RELAY_DONE 0u     /* Run */
+#define RELAY_NO_ROOM 100u
+#define RELAY_PAUSED 101u
+
+#define RELAY_REFUSED_SIZES 1u     /* wrong sizes; place 0 */
+#define RELAY_REFUSED_ORDER 2u     /* the order isn't a permutation; its first wrong position */
+#define RELAY_REFUSED_TARGET 3u    /* the target isn't one; its first wrong position */
+#define RELAY_REFUSED_MALFORMED 4u /* a malformed record; the lowest */
+#define RELAY_REFUSED_LEVELS 5u    /* a child that is not below its parent; the lowest parent */
+#define RELAY_REFUSED_EQUAL 6u     /* low equals high; the lowest record */
+#define RELAY_REFUSED_REPEAT 7u    /* a record that repeats an earlier one; the lowest */
+#define RELAY_REFUSED_ROOT 8u      /* a root past the table or to a free record; the first */
+#define RELAY_REFUSED_UNNAMED 9u   /* a used record that nothing names; the lowest */
+#define RELAY_REFUSED_POSITION 10u /* no such root; the position asked for */
+#define RELAY_REFUSED_INPUTS 11u   /* not n inputs, or one not 0 or 1; place 0 */
+#define RELAY_REFUSED_LEVEL 12u    /* no such level; the level asked for */
+
+/* How many numbers the longest answer of each call has. */
+#define RELAY_CHECK_NUMBERS 2u
+#define RELAY_READ_NUMBERS 2u
+#define RELAY_SHOW_NUMBERS 2u
+#define RELAY_SWAP_NUMBERS 4u
+#define RELAY_RUN_NUMBERS 6u
+#define RELAY_MOST_NUMBERS 6u
+
 #ifdef __cplusplus
 extern "C" {
 #endif
 
-/* Check a table, its roots and order. Changes no buffer but `answer`, a list of 2 or more.
- *   accepted: 0, the number of used records
+/* Check a table, its roots and order. Changes no buffer but `answer`.
+ *   accepted: RELAY_ACCEPTED, the number of used records
  *   refused:  the refusal's number (1, 2, 4 to 9), its place
  */
 size_t relay_check(const uint8_t *table, size_t table_length,
@@ -26,9 +79,8 @@ size_t relay_check(const uint8_t *table, size_t table_length,
                    const uint8_t *order, size_t order_length,
                    uint32_t *answer, size_t answer_length);
 
-/* Read the root at a position under inputs, byte v for variable v. Changes no buffer but `answer`, a list
- * of 2 or more.
- *   value:   0, the value (0 or 1)
+/* Read the root at a position under inputs, byte v for variable v. Changes no buffer but `answer`.
+ *   value:   RELAY_VALUE, the value (0 or 1)
  *   refused: the refusal's number (1, 2, 4 to 11), its place
  */
 size_t relay_read(const uint8_t *table, size_t table_length,
@@ -38,9 +90,8 @@ size_t relay_read(const uint8_t *table, size_t table_length,
                   const uint8_t *inputs, size_t inputs_length,
                   uint32_t *answer, size_t answer_length);
 
-/* Show the root at a position: which part of `table` is its record. Changes no buffer but `answer`, a list
- * of 2 or more.
- *   a record: the offset of its first byte in `table`, 8
+/* Show the root at a position: which part of `table` is its record. Changes no buffer but `answer`.
+ *   a record: the offset of its first byte in `table`, RELAY_RECORD_SIZE
  *   empty:    0, 0 (a refused table, no such root, or a constant root; relay_check tells the reason)
  */
 size_t relay_show(const uint8_t *table, size_t table_length,
@@ -50,9 +101,9 @@ size_t relay_show(const uint8_t *table, size_t table_length,
                   uint32_t *answer, size_t answer_length);
 
 /* Swap a level and the one below it. A made swap changes `table` and `order`; any other answer leaves both
- * as they are. `answer` is a list of 4 or more, whatever the answer will be.
- *   made:    0
- *   no room: 100, the level, needed, free
+ * as they are. `answer` holds RELAY_SWAP_NUMBERS or more, whatever the answer will be.
+ *   made:    RELAY_MADE
+ *   no room: RELAY_NO_ROOM, the level, needed, free
  *   refused: the refusal's number (1, 2, 4 to 9, 12), its place
  */
 size_t relay_swap(uint8_t *table, size_t table_length,
@@ -62,10 +113,10 @@ size_t relay_swap(uint8_t *table, size_t table_length,
                   uint32_t *answer, size_t answer_length);
 
 /* Run one slice towards the target, with a budget of swaps. The swaps made change `table` and `order`; a
- * refusal leaves both as they are. `answer` is a list of 6 or more, whatever the answer will be.
- *   done:    0, swaps made in this slice, left (0)
- *   no room: 100, swaps, left, the upper level of the next pair, needed, free
- *   paused:  101, swaps, left
+ * refusal leaves both as they are. `answer` holds RELAY_RUN_NUMBERS or more, whatever the answer will be.
+ *   done:    RELAY_DONE, swaps made in this slice, left (0)
+ *   no room: RELAY_NO_ROOM, swaps, left, the upper level of the next pair, needed, free
+ *   paused:  RELAY_PAUSED, swaps, left
  *   refused: the refusal's number (1 to 9), its place
  */
 size_t relay_run(uint8_t *table, size_t table_length,

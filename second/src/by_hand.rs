@@ -3,7 +3,7 @@
 use crate::hold::{hold_library_to, Expected, LIST};
 use crate::input::Input;
 use crate::model::{Answer, Question};
-use crate::{bench, edges};
+use crate::{edges, sheet};
 
 /// A question, and the answer and the buffers afterwards as the rules say.
 pub struct Case {
@@ -37,7 +37,7 @@ impl Case {
 }
 
 pub fn cases() -> Vec<Case> {
-    edges::cases().into_iter().chain(bench::cases()).collect()
+    edges::cases().into_iter().chain(sheet::cases()).collect()
 }
 
 /// Holds the library to every case whose question is wanted, each asked with

@@ -4,10 +4,10 @@
 //! `layout`, `refusals`, `value`, `swap`, `slice`, `model` and `printed` are
 //! the reading of the rules, and `kept` holds that reading to what it must
 //! keep. `library`, over `entries`, is the other side, and `hold` and
-//! `compare` ask both. The cases made by hand are in `edges` and `bench`; the
+//! `compare` ask both. The cases made by hand are in `edges` and `sheet`; the
 //! rest makes random ones.
 
-mod bench;
+mod sheet;
 mod by_hand;
 mod compare;
 mod damage;

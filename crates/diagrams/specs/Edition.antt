@@ -1,4 +1,5 @@
--- An edition of the table: which references there are. In a newer relay a reference may mean "the opposite of" another one (request L11); in the plain edition none does.
+-- An edition of the table: which numbers are references, and what they mean. There may be an edition in which a reference means the
+-- opposite of another: one record then serves a function and its opposite. In the plain edition no reference does.
 use Prim.Native.Nat.{ℕ, zero, suc, _<_}
 use native.Mathlib.Omega.{arith}
 use mathlib.Core.Bool.{Bool, true, false, not}
@@ -9,25 +10,21 @@ use lib.Dec.{eqb}
 use lib.ListN.{length, getD}
 use borrow.Author.Tests.{not-false}
 use Rattle.lists.specs.Says.{Some, true-false}
-use Rattle.diagrams.specs.Node.{Node, free, node, pick, Constant, ref, look}
+use Rattle.diagrams.specs.Node.{Node, free, node, pick, Constant, look}
 
 -- The laws of opposites are asked for only where there is an inverted reference b at all.
 pub record Edition : Type 1 where
   -- the constants
   pub Terminal : ℕ → Type 0
-  -- does r mean "the opposite of" a reference
+  -- r means the opposite of another reference, and which reference is the opposite of r
   pub inverted : ℕ → Bool
   pub opposite : ℕ → ℕ
+  -- the opposite of the opposite is the reference itself, and one of the two is inverted
   pub twice : (b r : ℕ) → inverted b ≡ true → opposite (opposite r) ≡ r
   pub other : (b r : ℕ) → inverted b ≡ true → inverted (opposite r) ≡ not (inverted r)
+  -- the opposite of a constant is one; a constant that is not inverted is below 2, where the references of records begin
   pub terminal-opposite : (b r : ℕ) → inverted b ≡ true → Terminal r → Terminal (opposite r)
-  -- is a reference that is not inverted malformed in every table
-  pub nothing : ℕ → Bool
-  -- of the references that are not inverted, the records' are from 2 on, and below 2 is a constant or nothing
   pub terminal-small : (r : ℕ) → inverted r ≡ false → Terminal r → r < 2
-  pub terminal-if : (r : ℕ) → inverted r ≡ false → r < 2 → nothing r ≡ false → Terminal r
-  pub terminal-then : (r : ℕ) → inverted r ≡ false → Terminal r → nothing r ≡ false
-  pub something : (i : ℕ) → nothing (ref i) ≡ false
 
 -- 0 is false and 1 is true; no reference is inverted
 abbrev pub plain : Edition
@@ -38,11 +35,7 @@ plain = record {
   twice = λ b r e. refl;
   other = λ b r e. true-false (sym e);
   terminal-opposite = λ b r e t. t;
-  nothing = λ r. false;
   terminal-small = λ r e t. t;
-  terminal-if = λ r e b n. b;
-  terminal-then = λ r e t. refl;
-  something = λ i. refl;
 }
 
 -- ---- the words of an edition
@@ -90,11 +83,11 @@ module _ (E : Edition) (b : ℕ) (g : E .inverted b ≡ true) where
   invert-not true r = sym (E .twice b r g)
   invert-not false r = refl
 
-  pub invert-opposite : (s : Bool) (r : ℕ) → invert E (not s) (E .opposite r) ≡ invert E s r
+  invert-opposite : (s : Bool) (r : ℕ) → invert E (not s) (E .opposite r) ≡ invert E s r
   invert-opposite true r = refl
   invert-opposite false r = E .twice b r g
 
-  pub turned-not : (s : Bool) (m : Node) → turned E (not s) m ≡ turned E true (turned E s m)
+  turned-not : (s : Bool) (m : Node) → turned E (not s) m ≡ turned E true (turned E s m)
   turned-not true m = sym (turned-twice m)
   turned-not false m = refl
 
@@ -106,7 +99,9 @@ module _ (E : Edition) (b : ℕ) (g : E .inverted b ≡ true) where
   bare-opposite r = rw (E .other b r g) (invert-opposite (E .inverted r) r)
 
   pub seen-opposite : (T : ℕ → Node) (r : ℕ) → seen E T (E .opposite r) ≡ turned E true (seen E T r)
-  seen-opposite T r = ap (λ (q : ℕ). turned E (E .inverted (E .opposite r)) (look T q)) (bare-opposite r) ∙ rw (E .other b r g) (turned-not (E .inverted r) (look T (bare E r)))
+  seen-opposite T r =
+      ap (λ (q : ℕ). turned E (E .inverted (E .opposite r)) (look T q)) (bare-opposite r)
+      ∙ rw (E .other b r g) (turned-not (E .inverted r) (look T (bare E r)))
 
   pub opposite-one : (p q : ℕ) → E .opposite p ≡ E .opposite q → p ≡ q
   opposite-one p q e = sym (E .twice b p g) ∙ ap (E .opposite) e ∙ E .twice b q g
@@ -148,18 +143,12 @@ module _ (E : Edition) where
   pub seen-upright : (T : ℕ → Node) (r : ℕ) → E .inverted r ≡ false → seen E T r ≡ look T r
   seen-upright T r e = ap (λ (s : Bool). turned E s (look T (invert E s r))) e
 
-  pub seen-bare : (T : ℕ → Node) (r : ℕ) → seen E T (bare E r) ≡ look T (bare E r)
-  seen-bare T r = seen-upright T (bare E r) (bare-upright r)
-
   pub bare-invert : (b r : ℕ) → bare E (invert E (E .inverted b) r) ≡ bare E r
   bare-invert b r = go (E .inverted b) refl
     where
       go : (s : Bool) → E .inverted b ≡ s → bare E (invert E s r) ≡ bare E r
       go true e = bare-opposite E b e r
       go false e = refl
-
-  pub bare-bare : (r : ℕ) → bare E (bare E r) ≡ bare E r
-  bare-bare r = bare-invert r r
 
   pub turned-node : (s : Bool) (v l h : ℕ) → turned E s (node v l h) ≡ node v (invert E s l) (invert E s h)
   turned-node true v l h = refl
@@ -177,7 +166,8 @@ module _ (E : Edition) where
   pub bare-one : (p r : ℕ) → bare E p ≡ bare E r → (p ≡ r) ⊎ ((b : ℕ) × (E .inverted b ≡ true) × (E .opposite p ≡ r))
   bare-one p r e = go (E .inverted p) refl (E .inverted r) refl e
     where
-      go : (s : Bool) → E .inverted p ≡ s → (u : Bool) → E .inverted r ≡ u → invert E s p ≡ invert E u r → (p ≡ r) ⊎ ((b : ℕ) × (E .inverted b ≡ true) × (E .opposite p ≡ r))
+      go : (s : Bool) → E .inverted p ≡ s → (u : Bool) → E .inverted r ≡ u → invert E s p ≡ invert E u r
+          → (p ≡ r) ⊎ ((b : ℕ) × (E .inverted b ≡ true) × (E .opposite p ≡ r))
       go true a true b z = inl (opposite-one E p a p r z)
       go true a false b z = inr (p, a, z)
       go false a true b z = inr (r, b, ap (E .opposite) z ∙ E .twice r r b)
@@ -204,7 +194,3 @@ module _ (E : Edition) where
       go : (s : Bool) → E .inverted r ≡ s → turned E s (look T (invert E s r)) ≡ free
       go true e = ap (turned E true) (small (E .opposite r) (E .terminal-small (E .opposite r) (E .other r r e ∙ rw e) (E .terminal-opposite r r e t)))
       go false e = small r (E .terminal-small r e t)
-
--- the plain edition sees the records themselves
-seen-plain : (T : ℕ → Node) → seen plain T ≡ look T
-seen-plain T = refl

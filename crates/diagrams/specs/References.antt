@@ -19,6 +19,7 @@ namesRecord t x = leb 2 x && ltb (x - 2) (records t)
 unfoldable pub dead : List ℕ → ℕ → Bool
 dead t x = leb 2 x && (leb (records t) (x - 2) || isFree t (x - 2))
 
+-- the same as a fact
 abbrev pub Dead : List ℕ → ℕ → Type 0
 Dead t x = (2 ≤ x) × ((records t ≤ x - 2) ⊎ (variableAt t (x - 2) ≡ 255))
 
@@ -26,7 +27,7 @@ pub dead-says : (t : List ℕ) (x : ℕ) → Says (dead t x) (Dead t x)
 unfolding dead
 dead-says t x = search says
 
-names-says : (t : List ℕ) (x : ℕ) → Says (namesRecord t x) ((2 ≤ x) × (x - 2 < records t))
+pub names-says : (t : List ℕ) (x : ℕ) → Says (namesRecord t x) ((2 ≤ x) × (x - 2 < records t))
 unfolding namesRecord
 names-says t x = search says
 
@@ -38,7 +39,7 @@ module _ (t : List ℕ) (x : ℕ) {b : Bool} (flag : b ≡ namesRecord t x) wher
     pub from-two : 2 ≤ x
     from-two = names-says t x .yes (sym flag ∙ holds) .0
 
-    number-small : x - 2 < records t
+    pub number-small : x - 2 < records t
     number-small = names-says t x .yes (sym flag ∙ holds) .1
 
     pub number-inside : {i : ℕ} → i ≡ x - 2 → InTable t i

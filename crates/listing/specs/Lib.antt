@@ -1,4 +1,2 @@
 pub mod Text
-pub mod Put
 pub mod Size
-pub mod Bench

@@ -9,6 +9,7 @@ use native.Mathlib.Omega.{arith}
 use lib.ListN.{length, length-append}
 use Rattle.lists.specs.Mem.{Mem}
 
+-- what f makes of each element, one list after the other
 unfoldable pub each : {A B : Type 0} → (A → List B) → List A → List B
 each f [] = []
 each f (a ∷ l) = f a ++ each f l

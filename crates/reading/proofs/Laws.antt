@@ -1,7 +1,7 @@
 -- One law for each way out of a function, over plain variables: its premises are what is known there.
 use Prim.Native.Nat.{ℕ, zero, suc, _-_, _≤_, _<_}
 use mathlib.Core.Bool.{Bool, true, false}
-use mathlib.Core.List.{List, []}
+use mathlib.Core.List.{List, [], _∷_}
 use mathlib.Core.Path.{_≡_, refl, ap, sym, _∙_}
 use native.Mathlib.Numerals.{sub-one}
 use native.Mathlib.Omega.{arith}
@@ -10,18 +10,23 @@ use borrow.Author.Tests.{eqb-true, eqb-false, le-leb, lt-leb, ltb-true}
 use lib.Dec.{eqb, ltb}
 use lib.ListN.{length, List·getD-eq-default}
 use Rattle.lists.specs.Count.{bit}
+use Rattle.lists.specs.Says.{either-side}
+use Rattle.lists.specs.Truth.{not-true, not-false}
 use Rattle.diagrams.specs.Layout.{records, rootCount, variableAt, lowAt, highAt, isFree, rootAt}
-use Rattle.diagrams.specs.Node.{no-constant, free, pick, at, ref}
+use Rattle.diagrams.specs.Node.{free, pick, at, ref}
+use Rattle.diagrams.specs.References.{namesRecord, from-two, number-small, not-inside, naming}
 use Rattle.diagrams.specs.Decode.{decode}
 use Rattle.diagrams.specs.Lookup.{lookup, node-of, free-of, past-of}
-use Rattle.diagrams.specs.Reduced.{look-plain}
+use Rattle.diagrams.specs.Reduced.{look-ends}
 use Rattle.diagrams.specs.Value.{chosen, met, value}
 use Rattle.diagrams.specs.Falls.{value-terminal}
-use Rattle.checks.specs.Stages.{verdictOf, row-refuses, row-passes, chain}
+use Rattle.checks.specs.Stages.{refusal, stageAt, verdictOf, row-refuses, row-passes, place-refuses, place-passes}
+use Rattle.checks.specs.Check.{checkStages}
 use Rattle.checks.specs.declared.Refusal.{Refusal}
+use Rattle.checks.specs.declared.Verdict.{Verdict}
 use Rattle.checks.specs.declared.Verdict.the-variants as verdict
-use Rattle.reading.specs.Read.{inputOf, noRoot, readStages, rootValue, readAfter, readOf}
-use Rattle.reading.specs.Parts.{refused-part, no-root-part, constant-part, record-part, root-inside}
+use Rattle.reading.specs.Read.{inputOf, noRoot, badInputs, readStages, rootValue, readAfter, readOf}
+use Rattle.reading.specs.Parts.{refused-part, no-root-part, constant-part, record-part, root-inside, record-ends}
 use Rattle.reading.specs.declared.ReadAnswer.the-variants.{Value, Refused}
 
 -- ---- an input
@@ -32,39 +37,47 @@ input-past inputs v h = rw (List·getD-eq-default inputs 0 h)
 
 -- ---- the child that is taken
 
-module _ (t : List ℕ) (inputs : ℕ → Bool) where
-  stays : (x : ℕ) → lookup t x ≡ free → x ≡ chosen inputs (lookup t x) x
+module _ (t : List ℕ) (inputs : ℕ → Bool) (x : ℕ) where
+  stays : lookup t x ≡ free → x ≡ chosen inputs (lookup t x) x
   unfolding chosen
-  stays x e = rw e
+  stays e = rw e
 
-  pub constant-stays : {b : Bool} (x : ℕ) → b ≡ ltb x 2 → b ≡ true → x ≡ chosen inputs (lookup t x) x
-  constant-stays x e h = stays x (look-plain (at (decode t)) x (ltb-true x 2 (sym e ∙ h)))
+  module _ {b : Bool} (flag : b ≡ namesRecord t x) where
+    pub nothing-stays : b ≡ false → x ≡ chosen inputs (lookup t x) x
+    nothing-stays h =
+        either-side x 2
+        (λ l. stays (look-ends (at (decode t)) x l))
+        (λ l. let z : x ≡ ref (x - 2) = omega arith in stays (ap (lookup t) z ∙ past-of t (x - 2) (not-inside t x flag h l)))
 
-  pub past-stays : {i : ℕ} (x : ℕ) → i ≡ x - 2 → 2 ≤ x → records t ≤ i → x ≡ chosen inputs (lookup t x) x
-  past-stays {i} x e h l = let z : x ≡ ref i = omega arith in stays x (rw z (past-of t i l))
+    -- it names record i
+    module _ {i : ℕ} {f : Bool} (named : b ≡ true) (number : i ≡ x - 2) (free? : f ≡ isFree t i) where
+      is-ref : x ≡ ref i
+      is-ref = omega (arith, from-two t x flag named)
 
-  pub free-stays : {i : ℕ} {f : Bool} (x : ℕ) → i ≡ x - 2 → f ≡ isFree t i → f ≡ true → 2 ≤ x → i < records t → x ≡ chosen inputs (lookup t x) x
-  free-stays {i} x e p q h l = let z : x ≡ ref i = omega arith in stays x (rw z (free-of t i l (eqb-true (variableAt t i) 255 (sym p ∙ q))))
+      inside : i < records t
+      inside = rw number (number-small t x flag named)
 
-  takes : (i x : ℕ) (b : Bool) → x ≡ ref i → i < records t → isFree t i ≡ false → inputs (variableAt t i) ≡ b → pick b (lowAt t i) (highAt t i) ≡ chosen inputs (lookup t x) x
-  unfolding chosen
-  takes i x b z l f e = rw (z, node-of t i l (eqb-false (variableAt t i) 255 f), e)
+      pub free-stays : f ≡ true → x ≡ chosen inputs (lookup t x) x
+      free-stays h = stays (ap (lookup t) is-ref ∙ free-of t i inside (eqb-true (variableAt t i) 255 (sym free? ∙ h)))
 
-  pub takes-high : {i v a : ℕ} {f b : Bool} (x : ℕ) → i ≡ x - 2 → f ≡ isFree t i → f ≡ false → v ≡ variableAt t i → b ≡ inputs v → b ≡ true → a ≡ highAt t i → 2 ≤ x → i < records t
-      → a ≡ chosen inputs (lookup t x) x
-  takes-high {i} x e p q r s u w h l = w ∙ takes i x true (omega arith) l (sym p ∙ q) (ap inputs (sym r) ∙ sym s ∙ u)
+      takes : (side : Bool) → f ≡ false → inputs (variableAt t i) ≡ side → pick side (lowAt t i) (highAt t i) ≡ chosen inputs (lookup t x) x
+      unfolding chosen
+      takes side h e = rw (is-ref, node-of t i inside (eqb-false (variableAt t i) 255 (sym free? ∙ h)), e)
 
-  pub takes-low : {i v a : ℕ} {f b : Bool} (x : ℕ) → i ≡ x - 2 → f ≡ isFree t i → f ≡ false → v ≡ variableAt t i → b ≡ inputs v → b ≡ false → a ≡ lowAt t i → 2 ≤ x → i < records t
-      → a ≡ chosen inputs (lookup t x) x
-  takes-low {i} x e p q r s u w h l = w ∙ takes i x false (omega arith) l (sym p ∙ q) (ap inputs (sym r) ∙ sym s ∙ u)
+      module _ {v a : ℕ} {d : Bool} (used : f ≡ false) (variable : v ≡ variableAt t i) (input : d ≡ inputs v) where
+        pub takes-high : d ≡ true → a ≡ highAt t i → a ≡ chosen inputs (lookup t x) x
+        takes-high h e = e ∙ takes true used (ap inputs (sym variable) ∙ sym input ∙ h)
 
-pub ruleset taking = (no-constant, constant-stays, past-stays, free-stays, takes-high, takes-low, needs)
+        pub takes-low : d ≡ false → a ≡ lowAt t i → a ≡ chosen inputs (lookup t x) x
+        takes-low h e = e ∙ takes false used (ap inputs (sym variable) ∙ sym input ∙ h)
+
+pub ruleset taking = (not-true, not-false, nothing-stays, free-stays, takes-high, takes-low, naming)
 
 -- ---- the value, level by level
 
 module _ (t : List ℕ) (inputs : ℕ → Bool) where
   pub constant-value : {b : Bool} (n x : ℕ) → b ≡ ltb x 2 → b ≡ true → eqb x 1 ≡ value (lookup t) inputs n x
-  constant-value n x e h = sym (value-terminal (lookup t) inputs n x (look-plain (at (decode t)) x (ltb-true x 2 (sym e ∙ h))))
+  constant-value n x e h = sym (value-terminal (lookup t) inputs n x (look-ends (at (decode t)) x (ltb-true x 2 (sym e ∙ h))))
 
   pub spent-value : (n x : ℕ) → n ≡ 0 → eqb x 1 ≡ value (lookup t) inputs n x
   unfolding value met
@@ -77,27 +90,38 @@ module _ (t : List ℕ) (inputs : ℕ → Bool) where
 
 -- ---- what Read answers
 
-module _ (t r o : List ℕ) (position : ℕ) (inputs : List ℕ) where
-  pub read-refuses : (w : Refusal) → verdict.Refused w ≡ verdictOf (readStages t r o position inputs) → Refused w ≡ readOf t r o position inputs
+module _ (t r o : List ℕ) (position : ℕ) (inputs : List ℕ) {v : Verdict} (checked : v ≡ verdictOf (checkStages t r o)) where
+  by : {w : Verdict} → w ≡ verdictOf (readStages t r o position inputs) → readAfter w (rootValue t r o position inputs) ≡ readOf t r o position inputs
   unfolding readOf
-  read-refuses w e = ap (λ v. readAfter v (rootValue t r o position inputs)) e
+  by e = ap (λ u. readAfter u (rootValue t r o position inputs)) e
 
-  pub read-tells : {x m : ℕ} {b : Bool} → verdict.Clear ≡ verdictOf (readStages t r o position inputs) → x ≡ rootAt r position → b ≡ value (lookup t) (inputOf inputs) (length o) x → m ≡ bit b
-      → Value m ≡ readOf t r o position inputs
-  unfolding readOf rootValue
-  read-tells e p q s = ap Value (s ∙ ap bit (q ∙ ap (value (lookup t) (inputOf inputs) (length o)) p)) ∙ ap (λ v. readAfter v (value (lookup t) (inputOf inputs) (length o) (rootAt r position))) e
+  pub read-refused : (w : Refusal) → v ≡ verdict.Refused w → Refused w ≡ readOf t r o position inputs
+  unfolding readStages
+  read-refused w h = by (row-refuses (checkStages t r o) _ w checked h)
 
-pub there : (r : List ℕ) (position : ℕ) → position < rootCount r → false ≡ noRoot r position
-there r position h = sym (lt-leb (rootCount r) position h)
+  module _ {m : ℕ} (clear : v ≡ verdict.Clear) (counted : m ≡ rootCount r) where
+    then : {w : Verdict} → w ≡ verdictOf (stageAt 10 position (noRoot r position) ∷ stageAt 11 0 (badInputs o inputs) ∷ [])
+        → readAfter w (rootValue t r o position inputs) ≡ readOf t r o position inputs
+    unfolding readStages
+    then e = by (row-passes (checkStages t r o) _ checked clear e)
 
-pub not-there : (r : List ℕ) (position : ℕ) → rootCount r ≤ position → true ≡ noRoot r position
-not-there r position h = sym (le-leb (rootCount r) position h)
+    pub read-no-root : m ≤ position → Refused (refusal 10 position) ≡ readOf t r o position inputs
+    read-no-root l = then (place-refuses 10 position (noRoot r position) true _ (sym (le-leb (rootCount r) position (omega arith))) refl)
 
-pub nothing-more : verdict.Clear ≡ verdictOf []
-nothing-more = refl
+    module _ {b : Bool} (flag : b ≡ badInputs o inputs) (there : position < m) where
+      past : {w : Verdict} → w ≡ verdictOf (stageAt 11 0 (badInputs o inputs) ∷ []) → readAfter w (rootValue t r o position inputs) ≡ readOf t r o position inputs
+      past e = then (place-passes 10 position (noRoot r position) false _ _ (sym (lt-leb (rootCount r) position (omega arith))) refl e)
 
-pub ruleset reading = (read-refuses, read-tells, row-refuses, row-passes, there, not-there, nothing-more, chain)
+      pub read-bad-inputs : b ≡ true → Refused (refusal 11 0) ≡ readOf t r o position inputs
+      read-bad-inputs h = past (place-refuses 11 0 (badInputs o inputs) b _ flag h)
+
+      pub read-value : {x n : ℕ} {d : Bool} → b ≡ false → x ≡ rootAt r position → d ≡ value (lookup t) (inputOf inputs) (length o) x → n ≡ bit d
+          → Value n ≡ readOf t r o position inputs
+      unfolding rootValue
+      read-value h is says e = ap Value (e ∙ ap bit (says ∙ ap (value (lookup t) (inputOf inputs) (length o)) is)) ∙ past (place-passes 11 0 (badInputs o inputs) b _ _ flag h refl)
+
+pub ruleset reading = (read-refused, read-no-root, read-bad-inputs, read-value)
 
 -- ---- what Show hands back
 
-pub ruleset showing = (refused-part, no-root-part, constant-part, record-part, root-inside, needs)
+pub ruleset showing = (refused-part, no-root-part, constant-part, record-part, root-inside, record-ends, needs)

@@ -1,4 +1,4 @@
--- Read: "a root under inputs: 0 or 1, or 1, 2, 4 to 11".
+-- Read: the value of a root under inputs, or the refusal of the first check that fails: those of Check, then 10 and 11.
 use Prim.Native.Nat.{ℕ}
 use mathlib.Core.Bool.{Bool, not, _||_}
 use mathlib.Core.List.{List, [], _∷_, _++_}

@@ -1,5 +1,5 @@
--- Show: "the eight bytes of the caller's own table are handed back, as that part of it and not a copy. The part is empty exactly for a
--- refused table (1, 2, 4 to 9), no such root, or a constant root".
+-- Show: the part of the caller's own table that is the record of a root; an empty part where the table is refused, there is no such root,
+-- or the root is a constant.
 use Prim.Native.Nat.{ℕ, _+_, _-_, _*_}
 use mathlib.Core.Bool.{Bool, true, false, cond, _&&_}
 use mathlib.Core.List.{List, [], _∷_, _++_}
@@ -36,10 +36,10 @@ partAt i = record { 0 = recordSize * i; 1 = recordSize * i + recordSize }
 unfoldable pub partOf : List ℕ → List ℕ → List ℕ → ℕ → Part
 partOf t r o position = cond (shows t r o position) (partAt (rootAt r position - 2)) noPart
 
--- what Show may hand back: these bytes, at this place of the caller's own memory (a pointer is a block and a byte in it)
-pub record ShowOutcome (t r o : List ℕ) (position : ℕ) (table shown : ℕ × ℕ) (bytes : List ℕ) : Type 0 where
+-- what Show may hand back: these bytes, by this pointer into the caller's own table (a pointer is a block and a byte in it)
+pub record ShowOutcome (t r o : List ℕ) (position : ℕ) (table pointer : ℕ × ℕ) (bytes : List ℕ) : Type 0 where
   pub the-bytes : bytes ≡ take (partOf t r o position .1 - partOf t r o position .0) (drop (partOf t r o position .0) t)
-  pub the-place : shown ≡ (table .0, partOf t r o position .0 + table .1)
+  pub the-pointer : pointer ≡ (table .0, partOf t r o position .0 + table .1)
 
 -- the numbers of a part: where it begins, and its length
 abbrev pub numbers : Part → List ℕ

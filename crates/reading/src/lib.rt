@@ -3,7 +3,6 @@ ghost use mathlib.Core.Path.{_≡_};
 ghost use Prim.Native.Nat.{_≤_, _<_};
 ghost use lib.ListN.{length};
 ghost use Rattle.lists.specs.First.{first};
-ghost use Rattle.lists.specs.Count.{bit};
 ghost use Rattle.diagrams.specs.Lookup.{lookup};
 ghost use Rattle.diagrams.specs.Value.{chosen, value};
 ghost use Rattle.reading.specs.Read.{inputOf, noInput, badInputs, ReadOutcome};
@@ -11,7 +10,6 @@ ghost use Rattle.reading.specs.Show.{partOf, ShowOutcome};
 use checks::Refusal;
 use checks::Verdict;
 use diagrams::RECORD_SIZE;
-use diagrams::ROOT_SIZE;
 use diagrams::Reference;
 use diagrams::Variable;
 
@@ -40,13 +38,10 @@ fn input(inputs: &[u8], v: Variable) -> bool
 fn child(table: &[u8], inputs: &[u8], x: Reference) -> Reference
     ensures { λ r. ⌜ r .0 ≡ chosen (inputOf (now (inputs .entry))) (lookup (now (table .entry)) (x .0)) (x .0) ⌝ }
 {
-    if x.is_constant() {
+    if !x.names_record(table) {
         return x;
     }
     let i = x.record();
-    if table.len() / RECORD_SIZE <= i.0 {
-        return x;
-    }
     if i.is_free(table) {
         return x;
     }
@@ -100,12 +95,6 @@ fn bad_inputs(order: &[u8], inputs: &[u8]) -> bool
 
 // ---- the entries
 
-fn number(b: bool) -> u8
-    ensures { λ x. ⌜ x ≡ bit b ⌝ }
-{
-    if b { 1 } else { 0 }
-}
-
 pub fn read(table: &[u8], roots: &[u8], order: &[u8], position: usize, inputs: &[u8]) -> ReadAnswer
     ensures { λ a. ⌜ ReadOutcome (now (table .entry)) (now (roots .entry)) (now (order .entry)) position (now (inputs .entry)) a ⌝ }
 {
@@ -113,7 +102,7 @@ pub fn read(table: &[u8], roots: &[u8], order: &[u8], position: usize, inputs: &
     if let Verdict::Refused(refusal) = verdict {
         return ReadAnswer::Refused(refusal);
     }
-    if roots.len() / ROOT_SIZE <= position {
+    if diagrams::count_roots(roots) <= position {
         return ReadAnswer::Refused(Refusal {
             number: 10,
             place: position,
@@ -126,7 +115,7 @@ pub fn read(table: &[u8], roots: &[u8], order: &[u8], position: usize, inputs: &
         });
     }
     let root = diagrams::root(roots, position);
-    ReadAnswer::Value(number(reads_true(table, inputs, root, order.len())))
+    ReadAnswer::Value(diagrams::one(reads_true(table, inputs, root, order.len())) as u8)
 }
 
 // Where the record of a root lies in the table; 0 to 0 where there is nothing to show.
@@ -137,14 +126,14 @@ pub fn shown_part(table: &[u8], roots: &[u8], order: &[u8], position: usize) -> 
     if let Verdict::Refused(_) = verdict {
         return Part(0, 0);
     }
-    if roots.len() / ROOT_SIZE <= position {
+    if diagrams::count_roots(roots) <= position {
         return Part(0, 0);
     }
     let root = diagrams::root(roots, position);
     if root.is_constant() {
         return Part(0, 0);
     }
-    let at = RECORD_SIZE * root.record().0;
+    let at = root.record().offset(table);
     Part(at, at + RECORD_SIZE)
 }
 

@@ -9,11 +9,14 @@ pub record Written : Type 0 where
   pub count : ℕ
   pub list : List ℕ
 
+abbrev pub wrote : ℕ → List ℕ → Written
+wrote count list = record { count = count; list = list }
+
 unfoldable pub written : List ℕ → List ℕ → Written
 written list numbers =
     cond (ltb (length list) (length numbers))
-    (record { count = 0; list = list })
-    (record { count = length numbers; list = numbers ++ drop (length numbers) list })
+    (wrote 0 list)
+    (wrote (length numbers) (numbers ++ drop (length numbers) list))
 
 -- ---- a call that may change a table and an order: only where its whole answer fits the lent list
 
@@ -26,5 +29,5 @@ pub record Told : Type 0 where
 unfoldable pub told : ℕ → List ℕ → List ℕ → List ℕ → List ℕ → List ℕ → List ℕ → Told
 told most list t o numbers t′ o′ =
     cond (ltb (length list) most)
-    (record { written = record { count = 0; list = list }; table = t; order = o })
+    (record { written = wrote 0 list; table = t; order = o })
     (record { written = written list numbers; table = t′; order = o′ })

@@ -1,21 +1,21 @@
 // The static library for C and Rust: each entry, with its answer as a list of numbers. include/relay.h declares it.
+ghost use mathlib.Core.List.{[], _∷_};
 ghost use mathlib.Core.Path.{_≡_};
-ghost use Rattle.checks.specs.Check as check;
-ghost use Rattle.reading.specs.Read as read;
-ghost use Rattle.reading.specs.Show as show;
+ghost use Prim.Native.Nat.{_<_};
 ghost use Rattle.swaps.specs.Outcome as swap;
 ghost use Rattle.slices.specs.Run as run;
-ghost use Rattle.relay.specs.Written.{written};
-ghost use Rattle.relay.specs.Told.{toldSwap, toldRun};
-ghost use Rattle.relay.specs.Fits.{Fits};
+ghost use Rattle.relay.specs.Written.{wrote, written};
+ghost use Rattle.relay.specs.Told.{CheckTold, ReadTold, ShowTold, SwapTold, RunTold};
+ghost use Rattle.relay.specs.Fits.{limit, Fits};
 use checks::CheckAnswer;
+use checks::Refusal;
 use reading::ReadAnswer;
 use slices::RunAnswer;
 use swaps::SwapAnswer;
 
 // The numbers at the front of the list; how many, or 0 where they don't fit.
 fn write(list: &mut [u32], numbers: &[u32]) -> usize
-    ensures { λ n. ⌜ record { count = n; list = now (list .exit) } ≡ written (now (list .entry)) (now (numbers .entry)) ⌝ }
+    ensures { λ n. ⌜ wrote n (now (list .exit)) ≡ written (now (list .entry)) (now (numbers .entry)) ⌝ }
 {
     let m = numbers.len();
     if list.len() < m {
@@ -29,21 +29,26 @@ fn write(list: &mut [u32], numbers: &[u32]) -> usize
     m
 }
 
+fn tell_refusal(answer: &mut [u32], refusal: Refusal) -> usize
+    requires { ⌜ refusal .place < limit ⌝ }
+    ensures { λ n. ⌜ wrote n (now (answer .exit)) ≡ written (now (answer .entry)) (refusal .number ∷ refusal .place ∷ []) ⌝ }
+{
+    let number = refusal.number as u32;
+    let place = refusal.place as u32;
+    let numbers = [number, place];
+    write(answer, &numbers)
+}
+
 #[no_mangle]
 pub extern "C" fn relay_check(table: &[u8], roots: &[u8], order: &[u8], answer: &mut [u32]) -> usize
-    ensures { λ n. ⌜ record { count = n; list = now (answer .exit) } ≡ written (now (answer .entry)) (check.numbers (check.checkOf (now (table .entry)) (now (roots .entry)) (now (order .entry)))) ⌝ }
+    ensures { λ n. ⌜ CheckTold (now (table .entry)) (now (roots .entry)) (now (order .entry)) (now (answer .entry)) (wrote n (now (answer .exit))) ⌝ }
 {
     match checks::check(table, roots, order) {
         CheckAnswer::Accepted(used) => {
             let numbers = [0u32, used as u32];
             write(answer, &numbers)
         }
-        CheckAnswer::Refused(refusal) => {
-            let number = refusal.number as u32;
-            let place = refusal.place as u32;
-            let numbers = [number, place];
-            write(answer, &numbers)
-        }
+        CheckAnswer::Refused(refusal) => tell_refusal(answer, refusal),
     }
 }
 
@@ -56,19 +61,15 @@ pub extern "C" fn relay_read(
     inputs: &[u8],
     answer: &mut [u32],
 ) -> usize
-    ensures { λ n. ⌜ record { count = n; list = now (answer .exit) } ≡ written (now (answer .entry)) (read.numbers (read.readOf (now (table .entry)) (now (roots .entry)) (now (order .entry)) position (now (inputs .entry)))) ⌝ }
+    ensures { λ n. ⌜ ReadTold (now (table .entry)) (now (roots .entry)) (now (order .entry)) position (now (inputs .entry))
+        (now (answer .entry)) (wrote n (now (answer .exit))) ⌝ }
 {
     match reading::read(table, roots, order, position as usize, inputs) {
         ReadAnswer::Value(value) => {
             let numbers = [0u32, value as u32];
             write(answer, &numbers)
         }
-        ReadAnswer::Refused(refusal) => {
-            let number = refusal.number as u32;
-            let place = refusal.place as u32;
-            let told = [number, place];
-            write(answer, &told)
-        }
+        ReadAnswer::Refused(refusal) => tell_refusal(answer, refusal),
     }
 }
 
@@ -81,7 +82,8 @@ pub extern "C" fn relay_show(
     position: u32,
     answer: &mut [u32],
 ) -> usize
-    ensures { λ n. ⌜ record { count = n; list = now (answer .exit) } ≡ written (now (answer .entry)) (show.numbers (show.partOf (now (table .entry)) (now (roots .entry)) (now (order .entry)) position)) ⌝ }
+    ensures { λ n. ⌜ ShowTold (now (table .entry)) (now (roots .entry)) (now (order .entry)) position
+        (now (answer .entry)) (wrote n (now (answer .exit))) ⌝ }
 {
     let part = reading::shown_part(table, roots, order, position as usize);
     let from = part.0 as u32;
@@ -92,25 +94,23 @@ pub extern "C" fn relay_show(
 
 fn tell_swap(answer: &mut [u32], a: SwapAnswer) -> usize
     requires { ⌜ Fits (swap.numbers a) ⌝ }
-    ensures { λ n. ⌜ record { count = n; list = now (answer .exit) } ≡ written (now (answer .entry)) (swap.numbers a) ⌝ }
+    ensures { λ n. ⌜ wrote n (now (answer .exit)) ≡ written (now (answer .entry)) (swap.numbers a) ⌝ }
 {
     match a {
         SwapAnswer::Made => {
             let numbers = [0u32];
             write(answer, &numbers)
         }
-        SwapAnswer::NoRoom {
-            level,
-            needed,
-            free,
-        } => {
-            let numbers = [100u32, level as u32, needed as u32, free as u32];
+        SwapAnswer::NoRoom(lack) => {
+            let numbers = [
+                100u32,
+                lack.level as u32,
+                lack.needed as u32,
+                lack.free as u32,
+            ];
             write(answer, &numbers)
         }
-        SwapAnswer::Refused(refusal) => {
-            let numbers = [refusal.number as u32, refusal.place as u32];
-            write(answer, &numbers)
-        }
+        SwapAnswer::Refused(refusal) => tell_refusal(answer, refusal),
     }
 }
 
@@ -122,7 +122,8 @@ pub extern "C" fn relay_swap(
     level: u32,
     answer: &mut [u32],
 ) -> usize
-    ensures { λ n. ⌜ record { written = record { count = n; list = now (answer .exit) }; table = now (table .exit); order = now (order .exit) } ≡ toldSwap (now (answer .entry)) (now (table .entry)) (now (roots .entry)) (now (order .entry)) level ⌝ }
+    ensures { λ n. ⌜ SwapTold (now (table .entry)) (now (roots .entry)) (now (order .entry)) level
+        (now (answer .entry)) (wrote n (now (answer .exit))) (now (table .exit)) (now (order .exit)) ⌝ }
 {
     if answer.len() < 4 {
         return 0;
@@ -133,27 +134,21 @@ pub extern "C" fn relay_swap(
 
 fn tell_run(answer: &mut [u32], a: RunAnswer) -> usize
     requires { ⌜ Fits (run.numbers a) ⌝ }
-    ensures { λ n. ⌜ record { count = n; list = now (answer .exit) } ≡ written (now (answer .entry)) (run.numbers a) ⌝ }
+    ensures { λ n. ⌜ wrote n (now (answer .exit)) ≡ written (now (answer .entry)) (run.numbers a) ⌝ }
 {
     match a {
         RunAnswer::Done { swaps, left } => {
             let numbers = [0u32, swaps as u32, left as u32];
             write(answer, &numbers)
         }
-        RunAnswer::NoRoom {
-            swaps,
-            left,
-            level,
-            needed,
-            free,
-        } => {
+        RunAnswer::NoRoom { swaps, left, lack } => {
             let numbers = [
                 100u32,
                 swaps as u32,
                 left as u32,
-                level as u32,
-                needed as u32,
-                free as u32,
+                lack.level as u32,
+                lack.needed as u32,
+                lack.free as u32,
             ];
             write(answer, &numbers)
         }
@@ -161,10 +156,7 @@ fn tell_run(answer: &mut [u32], a: RunAnswer) -> usize
             let numbers = [101u32, swaps as u32, left as u32];
             write(answer, &numbers)
         }
-        RunAnswer::Refused(refusal) => {
-            let numbers = [refusal.number as u32, refusal.place as u32];
-            write(answer, &numbers)
-        }
+        RunAnswer::Refused(refusal) => tell_refusal(answer, refusal),
     }
 }
 
@@ -177,7 +169,8 @@ pub extern "C" fn relay_run(
     budget: u32,
     answer: &mut [u32],
 ) -> usize
-    ensures { λ n. ⌜ record { written = record { count = n; list = now (answer .exit) }; table = now (table .exit); order = now (order .exit) } ≡ toldRun (now (answer .entry)) (now (table .entry)) (now (roots .entry)) (now (order .entry)) (now (target .entry)) budget ⌝ }
+    ensures { λ n. ⌜ RunTold (now (table .entry)) (now (roots .entry)) (now (order .entry)) (now (target .entry)) budget
+        (now (answer .entry)) (wrote n (now (answer .exit))) (now (table .exit)) (now (order .exit)) ⌝ }
 {
     if answer.len() < 6 {
         return 0;

@@ -11,7 +11,7 @@ use Rattle.orders.specs.Permutation.{levelOf, holdsAt}
 use Rattle.orders.specs.Exchange.{exchange}
 use Rattle.plans.specs.Inversions.{left, inverted}
 use Rattle.plans.specs.Plans.{same?, differsAt}
-use Rattle.plans.specs.BringUp.{bringUp, nearest}
+use Rattle.plans.specs.BringUp.{bringUp, firstDifference}
 use Rattle.slice_rules.specs.Slices.{Relay, arrived, next, goes, made}
 
 -- an order alone, where nothing stands in the way of a swap
@@ -24,5 +24,5 @@ unfolding tabulate left inverted pairs total count levelOf holdsAt first
 i-left = refl
 
 i-made : made orderAlone bringUp (tabulate 32 (λ k. 31 - k)) 500 (tabulate 32 (λ k. k)) ≡ 496
-unfolding tabulate made goes next arrived same? bringUp nearest differsAt first levelOf holdsAt exchange
+unfolding tabulate made goes next arrived same? bringUp firstDifference differsAt first levelOf holdsAt exchange
 i-made = refl

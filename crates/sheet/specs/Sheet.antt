@@ -18,9 +18,9 @@ use Rattle.check_permutation.specs.BadPlace.{badPlace}
 use Rattle.orders.specs.Exchange.{exchange}
 use Rattle.plans.specs.Inversions.{inverted, left}
 use Rattle.plans.specs.Plans.{differsAt, same?}
-use Rattle.plans.specs.BringUp.{bringUp, nearest}
+use Rattle.plans.specs.BringUp.{bringUp, firstDifference}
 use Rattle.check_sizes.specs.Sizes.{badSizes}
-use Rattle.diagrams.specs.References.{dead}
+use Rattle.diagrams.specs.References.{namesRecord, dead}
 use Rattle.check_malformed.specs.Malformed.{malformed}
 use Rattle.check_levels.specs.Levels.{notUnder, notBelow}
 use Rattle.check_equal.specs.Equal.{lowIsHigh}
@@ -31,9 +31,8 @@ use Rattle.check_names.specs.Names.{idle}
 use Rattle.checks.specs.Stages.{only, verdictFrom}
 use Rattle.checks.specs.Check.{tableStages, used}
 use Rattle.swap_rules.specs.Record.{lowOf, highOf, isFreeNode, isOf, same}
-use Rattle.swap_rules.specs.Swap as one
-use Rattle.swap_rules.specs.Swap.{xAt, yAt, grandchild, f00, f01, f10, f11, crosses, asked, stands, isNew, wanted, news, names, dies, slots, slotOf}
-use Rattle.swap_rules.specs.Swap.{X, becomes, needed, freeCount, fits, turn, filled, swapped}
+use Rattle.swap_rules.specs.Swap.{xAt, yAt, grandchild, f00, f01, f10, f11, crosses, asked, stands, isNew, wanted, news, stillNames, dies, slots, slotOf}
+use Rattle.swap_rules.specs.Swap.{X, becomes, needed, freeCount, fits, slotIndex, filled, recordAfter, swapped}
 use Rattle.swaps.specs.Outcome.{neededIn, wayOf, lack, tableAfter}
 use Rattle.slice_rules.specs.Slices as over
 use Rattle.slice_rules.specs.Slices.{arrived, next, goes, made, leaves, slice}
@@ -69,8 +68,13 @@ unfoldable pub rootBytes : List ℕ → List ℕ
 rootBytes [] = []
 rootBytes (x ∷ s) = x % 256 ∷ x / 256 ∷ rootBytes s
 
--- what the run gives, by the definition in its contract
+-- what the run gives, by the definition in its contract; `unfolding outcome` opens all that a run is computed with
 unfoldable pub outcome : Row → Outcome
+unfolding nodeAt decode eight encode rootsOf runOf runStages badRunSizes badSizes only verdictFrom holdsAt badPlace levelOf tableStages dead malformed
+    notUnder notBelow lowIsHigh sameRecord repeats deadRoot rootNames recordNames idle ranTo answerOf relay slice leaves over.judge made goes next arrived
+    same? differsAt bringUp firstDifference exchange left inverted pairs total first count tabulate keep once each which look lowOf highOf isFreeNode isOf same
+    grandchild f00 f01 f10 f11 crosses asked stands isNew wanted news stillNames dies slots slotOf X becomes needed freeCount fits slotIndex filled recordAfter swapped
+    wayOf tableAfter namesRecord
 outcome row =
     let g = row .given in
     let k = bringUp (g .order) (g .target) in
@@ -140,16 +144,4 @@ rows =
 -- every row comes out as the sheet has it
 pub sheet : map outcome rows ≡ map expected rows
 unfolding outcome expected rows swap orders rootBytes
-
-unfolding nodeAt decode eight encode rootsOf runOf runStages badRunSizes badSizes only verdictFrom holdsAt badPlace levelOf
-
-unfolding tableStages dead malformed notUnder notBelow lowIsHigh sameRecord repeats deadRoot rootNames recordNames idle
-
-unfolding ranTo answerOf relay slice leaves over.judge made goes next arrived same? differsAt bringUp nearest exchange left inverted pairs total
-
-unfolding first count tabulate keep once each which look lowOf highOf isFreeNode isOf same
-
-unfolding grandchild f00 f01 f10 f11 crosses asked stands isNew wanted news names dies slots slotOf X becomes needed freeCount fits turn filled
-
-unfolding one.after swapped wayOf tableAfter
 sheet = refl

@@ -35,7 +35,8 @@ use Rattle.swaps.specs.declared.Lack.{Lack}
 use Rattle.swaps.specs.declared.Way.{Way}
 use Rattle.swaps.specs.declared.Way.the-variants as way
 use Rattle.slices.specs.OneSwap.{plainSwap}
-use Rattle.slices.specs.Run.{State, relay, badRunSizes, runStages, answerOf, ranTo, runJudged, runOf, SliceDone, RunOutcome, stateOf, Stepped, Driven, judgedOn}
+use Rattle.slices.specs.Run.{State, relay, badRunSizes, runStages, answerOf, ranTo, runJudged, runOf, SliceDone, RunOutcome}
+use Rattle.slices.specs.Run.{stateOf, Stepped, Driven, judgedOn}
 use Rattle.slices.specs.Theorems.{Startable, run-starts}
 use Rattle.slices.specs.declared.RunAnswer.{RunAnswer}
 use Rattle.slices.specs.declared.RunAnswer.the-variants.{Done, NoRoom, Paused, Refused}
@@ -58,7 +59,8 @@ few-levels h = h .few
 pub differ : (o g : List ℕ) {b : Bool} → b ≡ same? o g → b ≡ false → same? o g ≡ false
 differ o g e h = sym e ∙ h
 
-module _ {order goal : Order} {n : ℕ} (h : Arranged order n) (i : Arranged goal n) {b : Bool} (same : b ≡ same? (bytesOf order n) (bytesOf goal n)) (apart : b ≡ false)
+module _ {order goal : Order} {n : ℕ} (h : Arranged order n) (i : Arranged goal n)
+    {b : Bool} (same : b ≡ same? (bytesOf order n) (bytesOf goal n)) (apart : b ≡ false)
     {k : ℕ} (planned : k ≡ bringUp (bytesOf order n) (bytesOf goal n)) where
   pub plan-inside : k + 1 < n
   plan-inside =
@@ -85,7 +87,8 @@ same-table : (t r : List ℕ) (order : Order) (n k : ℕ) → k + 1 < n
     → tableAfter t r (xAt (order .variables) k) (yAt (order .variables) k) ≡ tableAfter t r (xAt (bytesOf order n) k) (yAt (bytesOf order n) k)
 same-table t r order n k l = rw (getD-take n (order .variables) k 0 (omega arith), getD-take n (order .variables) (k + 1) 0 l)
 
-module _ (t r : List ℕ) {order goal : Order} {n : ℕ} (h : Arranged order n) (i : Arranged goal n) {b : Bool} (same : b ≡ same? (bytesOf order n) (bytesOf goal n)) where
+module _ (t r : List ℕ) {order goal : Order} {n : ℕ} (h : Arranged order n) (i : Arranged goal n)
+    {b : Bool} (same : b ≡ same? (bytesOf order n) (bytesOf goal n)) where
   rests-there : b ≡ true → false ≡ over.goes (relay plainSwap r) bringUp (bytesOf goal n) (stateOf t order n)
   unfolding over.goes over.arrived relay
   rests-there e = rw (sym same ∙ e)
@@ -93,7 +96,8 @@ module _ (t r : List ℕ) {order goal : Order} {n : ℕ} (h : Arranged order n) 
   pub step-arrived : b ≡ true → Stepped plainSwap bringUp t r order goal n (record { moved = false; order = order }) t
   step-arrived e = record { moves = rests-there e; to = λ f. true-false (sym f); stays = λ f. refl; arranged = h }
 
-  pub judge-done : (swaps : ℕ) {l : ℕ} → l ≡ left (bytesOf order n) (bytesOf goal n) → b ≡ true → Done swaps l ≡ judgedOn plainSwap bringUp t r order goal n swaps
+  pub judge-done : (swaps : ℕ) {l : ℕ} → l ≡ left (bytesOf order n) (bytesOf goal n) → b ≡ true
+      → Done swaps l ≡ judgedOn plainSwap bringUp t r order goal n swaps
   unfolding answerOf over.judge over.arrived relay
   judge-done swaps counted e = rw (sym same ∙ e, ← counted)
 
@@ -123,10 +127,13 @@ module _ (t r : List ℕ) {order goal : Order} {n : ℕ} (h : Arranged order n) 
         arranged = h;
       }
 
-      pub step-made : {q : Order} → w ≡ way.Clear → q ≡ exchangedOrder order k → Stepped plainSwap bringUp t r order goal n (record { moved = true; order = q }) t′
+      pub step-made : {q : Order} → w ≡ way.Clear → q ≡ exchangedOrder order k
+          → Stepped plainSwap bringUp t r order goal n (record { moved = true; order = q }) t′
       step-made {q} e p =
           let new : t′ ≡ tableAfter t r (xAt (bytesOf order n) k) (yAt (bytesOf order n) k) =
-          out .table ∙ ap (λ (z : Way). cond (isClear z) (tableAfter t r (xAt (order .variables) k) (yAt (order .variables) k)) t) e ∙ same-table t r order n k inside in
+          out .table
+          ∙ ap (λ (z : Way). cond (isClear z) (tableAfter t r (xAt (order .variables) k) (yAt (order .variables) k)) t) e
+          ∙ same-table t r order n k inside in
           let moved : bytesOf q n ≡ exchange (bytesOf order n) k = ap (λ z. bytesOf z n) p ∙ exchanged-bytes h k inside in
           record {
             moves = ap isClear (sym e) ∙ sym (goes-as (out .answer));
@@ -265,7 +272,8 @@ module _ (t r o g : List ℕ) (budget : ℕ) {v : Verdict} (judged : v ≡ verdi
   unfolding runOf
   run-refused e = ap (runJudged plainSwap bringUp t r o g budget) (sym e ∙ judged)
 
-  pub run-sliced : {a : RunAnswer} {t′ o′ : List ℕ} → v ≡ verdict.Clear → SliceDone plainSwap bringUp t r o g budget a t′ o′ → RunOutcome plainSwap bringUp t r o g budget a t′ o′
+  pub run-sliced : {a : RunAnswer} {t′ o′ : List ℕ} → v ≡ verdict.Clear → SliceDone plainSwap bringUp t r o g budget a t′ o′
+      → RunOutcome plainSwap bringUp t r o g budget a t′ o′
   unfolding runOf
   run-sliced e d = d ∙ ap (runJudged plainSwap bringUp t r o g budget) (sym e ∙ judged)
 

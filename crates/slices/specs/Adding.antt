@@ -61,7 +61,8 @@ module _ (W : OneSwap) (plan : Plan) where
     pub run-add : (t r o g : List ℕ) (a b : ℕ) → asOne (runOf W plan t r o g a) (runNext r g (runOf W plan t r o g a) b) ≡ runOf W plan t r o g (a + b)
     run-add t r o g a b = go (verdictOf (runStages W t r o g)) refl
       where
-        go : (v : Verdict) → verdictOf (runStages W t r o g) ≡ v → asOne (runOf W plan t r o g a) (runNext r g (runOf W plan t r o g a) b) ≡ runOf W plan t r o g (a + b)
+        go : (v : Verdict) → verdictOf (runStages W t r o g) ≡ v
+            → asOne (runOf W plan t r o g a) (runNext r g (runOf W plan t r o g a) b) ≡ runOf W plan t r o g (a + b)
         go verdict.Clear e = add-started t r o g (run-starts W t r o g (clear-only (runStages W t r o g) e)) a b
         go (verdict.Refused f) e = rw (refused-again t r o g f e a, refused-again t r o g f e b, refused-again t r o g f e (a + b))
 

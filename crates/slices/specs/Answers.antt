@@ -67,7 +67,8 @@ answer-paused m l done a b e = apart (cc)
 answer-paused m l (meets (way.NoRoom lack)) a b e = apart (cc)
 answer-paused m l (meets way.Clear) a b e = (refl, (cc), (cc))
 
-pub answer-no-room : (m l : ℕ) (j : Judgement Way) (a b : ℕ) (lack : Lack) → answerOf m l j ≡ NoRoom a b lack → (j ≡ meets (way.NoRoom lack)) × (a ≡ m) × (b ≡ l)
+pub answer-no-room : (m l : ℕ) (j : Judgement Way) (a b : ℕ) (lack : Lack) → answerOf m l j ≡ NoRoom a b lack
+    → (j ≡ meets (way.NoRoom lack)) × (a ≡ m) × (b ≡ l)
 unfolding answerOf
 answer-no-room m l done a b lack e = apart (cc)
 answer-no-room m l (meets (way.NoRoom lack′)) a b lack e = let p : lack′ ≡ lack = cc in (ap (λ z. meets (way.NoRoom z)) p, (cc), (cc))

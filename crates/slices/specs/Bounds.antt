@@ -1,4 +1,4 @@
--- The numbers of an answer of Run are small: it makes no more swaps than its budget, and left, level, needed and free are those of a table that the relay can use.
+-- The numbers of an answer of Run are small: it makes no more swaps than its budget, and left, level, needed and free are those of a table that can be used.
 use Prim.Native.Nat.{ℕ, _+_, _*_, _≤_, _<_}
 use mathlib.Core.Bool.{Bool, true, false, cond}
 use mathlib.Core.List.{List, [], _∷_}

@@ -89,7 +89,8 @@ module _ (W : OneSwap) (plan : Plan) (t r o g : List ℕ) where
   run-one b p q = (ap (λ (s : Ran). s .answer) (p ∙ sym q), ap (λ (s : Ran). s .table) (p ∙ sym q), ap (λ (s : Ran). s .order) (p ∙ sym q))
 
   -- Run refuses with k at x exactly where check k fails at x, at no place before it, and every earlier check passes everywhere; it changes nothing then
-  pub run-refuses : (b k x : ℕ) → FailsFirst (runStages W t r o g) k x → runOf W plan t r o g b ≡ record { answer = Refused (refusal k x); table = t; order = o }
+  pub run-refuses : (b k x : ℕ) → FailsFirst (runStages W t r o g) k x
+      → runOf W plan t r o g b ≡ record { answer = Refused (refusal k x); table = t; order = o }
   unfolding runOf
   run-refuses b k x f = ap (runJudged W plan t r o g b) (refused-if (runStages W t r o g) k x f)
 
@@ -100,6 +101,12 @@ module _ (W : OneSwap) (plan : Plan) (t r o g : List ℕ) where
       go : (v : Verdict) → runJudged W plan t r o g b v .answer ≡ Refused (refusal k x) → v ≡ verdict.Refused (refusal k x)
       go verdict.Clear q = answer-not-refused _ _ _ (refusal k x) q
       go (verdict.Refused f) q = let p : f ≡ refusal k x = cc in ap verdict.Refused p
+
+  pub refused-keeps : (b : ℕ) (f : Refusal) → runOf W plan t r o g b .answer ≡ Refused f
+      → (runOf W plan t r o g b .table ≡ t) × (runOf W plan t r o g b .order ≡ o)
+  refused-keeps b f e =
+      let q = run-refuses b (f .number) (f .place) (run-refuses-only b (f .number) (f .place) e) in
+      (ap (λ (w : Ran). w .table) q, ap (λ (w : Ran). w .order) q)
 
   -- an answer that is no refusal comes from a table that can be used and a target of its variables
   pub run-startable : (b : ℕ) → ((f : Refusal) → runOf W plan t r o g b .answer ≡ Refused f → ⊥) → Startable W t r o g
@@ -257,6 +264,12 @@ module _ (W : OneSwap) (plan : Plan) (lawful : Lawful plan) (t r o g : List ℕ)
   -- otherwise the answer is what stands in the way of the plan's next swap
   pub run-meets : (b : ℕ) → (ran b .order ≡ g → ⊥) → ran b .answer ≡ answerOf (swapsIn (ran b .answer)) (left (ran b .order) g) (meets (met b))
   run-meets b n = run-judged b ∙ ap (answerOf (swapsIn (ran b .answer)) (left (ran b .order) g)) (meets-met b n)
+
+  -- no room where the plan's next swap lacks room
+  pub run-stuck : (b : ℕ) → (ran b .order ≡ g → ⊥) → (lack : Lack) → met b ≡ way.NoRoom lack
+      → ran b .answer ≡ NoRoom (swapsIn (ran b .answer)) (left (ran b .order) g) lack
+  unfolding answerOf
+  run-stuck b n lack e = run-meets b n ∙ ap (λ w. answerOf (swapsIn (ran b .answer)) (left (ran b .order) g) (meets w)) e
 
   -- a judgement of the state left, as the buffers have it
   met-only : (b : ℕ) (w : Way) → over.judge R plan g (end b) ≡ meets w → (ran b .order ≡ g → ⊥) × (met b ≡ w)

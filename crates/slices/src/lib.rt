@@ -5,9 +5,8 @@ ghost use Rattle.plans.specs.BringUp.{bringUp};
 ghost use Rattle.check_sizes.specs.Sizes.{Sized};
 ghost use Rattle.checks.specs.Stages.{verdictOf};
 ghost use Rattle.slices.specs.OneSwap.{plainSwap};
-ghost use Rattle.slices.specs.Run.{badRunSizes, runStages, Stepped, Driven, judgedOn, RunOutcome};
+ghost use Rattle.slices.specs.Run.{badRunSizes, runStages, Stepped, Driven, judgedOn, SliceDone, RunOutcome};
 ghost use Rattle.slices.specs.Theorems.{Startable};
-ghost use Rattle.slices.specs.Run.{SliceDone};
 use checks::Refusal;
 use checks::Verdict;
 use orders::Order;
@@ -155,7 +154,9 @@ fn run_slice(
     budget: u32,
 ) -> RunAnswer
     requires { ⌜ Startable plainSwap (now table) (now roots) (now order) (now target) ⌝ }
-    ensures { λ a. ⌜ SliceDone plainSwap bringUp (now (table .entry)) (now (roots .entry)) (now (order .entry)) (now (target .entry)) budget a (now (table .exit)) (now (order .exit)) ⌝ }
+    ensures { λ a.
+        ⌜ SliceDone plainSwap bringUp (now (table .entry)) (now (roots .entry)) (now (order .entry)) (now (target .entry)) budget a
+        (now (table .exit)) (now (order .exit)) ⌝ }
 {
     let n = order.len();
     let goal = Order::load(target);
@@ -174,7 +175,9 @@ pub fn run(
     target: &[u8],
     budget: u32,
 ) -> RunAnswer
-    ensures { λ a. ⌜ RunOutcome plainSwap bringUp (now (table .entry)) (now (roots .entry)) (now (order .entry)) (now (target .entry)) budget a (now (table .exit)) (now (order .exit)) ⌝ }
+    ensures { λ a.
+        ⌜ RunOutcome plainSwap bringUp (now (table .entry)) (now (roots .entry)) (now (order .entry)) (now (target .entry)) budget a
+        (now (table .exit)) (now (order .exit)) ⌝ }
 {
     match verdict_of_run(table, roots, order, target) {
         Verdict::Refused(refusal) => RunAnswer::Refused(refusal),

@@ -21,7 +21,7 @@ use Rattle.diagrams.specs.Lookup.{lookup, at-decode, rootsOf, length-roots, roo
 use Rattle.diagrams.specs.Noting.{rootNames, noNotes, length-no-notes, no-note, roots-long, roots-has, records-long, records-has}
 use Rattle.check_sizes.specs.Sizes.{Sized}
 use Rattle.swap_rules.specs.Record.{lowOf, highOf, isFreeNode}
-use Rattle.swap_rules.specs.Swap.{crosses, names, dies}
+use Rattle.swap_rules.specs.Swap.{crosses, stillNames, dies}
 use Rattle.swap_records.specs.Kinds.{of-is, ofAt, crossesAt, standsAt}
 use Rattle.swap_records.specs.Listed.{StandingListed}
 use Rattle.swap_records.specs.declared.Pair.{Pair}
@@ -86,8 +86,8 @@ module _ (t : List ℕ) (x y : ℕ) where
       go true false b false = refl
       go false e b n = refl
 
-  names-is : (q j : ℕ) → j < records t → names plain (at (decode t)) x y q j ≡ keeps t x y q j
-  unfolding names nodeAt isFreeNode lowOf highOf
+  names-is : (q j : ℕ) → j < records t → stillNames plain (at (decode t)) x y q j ≡ keeps t x y q j
+  unfolding stillNames nodeAt isFreeNode lowOf highOf
   names-is q j h = rw (at-decode t j h) (go (isFree t j))
     where
       m : Bool → Node
@@ -98,7 +98,7 @@ module _ (t : List ℕ) (x y : ℕ) where
       go true = refl
       go false = refl
 
-  records-name : (q : ℕ) → any (names plain (at (decode t)) x y q) (records t) ≡ any (keeps t x y q) (records t)
+  records-name : (q : ℕ) → any (stillNames plain (at (decode t)) x y q) (records t) ≡ any (keeps t x y q) (records t)
   records-name q = ap (λ k. ltb k (records t)) (first-agrees _ _ (records t) (names-is q))
 
 roots-name : (r : List ℕ) (q : ℕ) → any (λ k. eqb (getD (rootsOf r) k 0) q) (length (rootsOf r)) ≡ any (rootNames r q) (rootCount r)

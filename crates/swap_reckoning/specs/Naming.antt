@@ -23,7 +23,7 @@ use Rattle.diagrams.specs.Lookup.{lookup, at-decode, rootsOf, length-roots, roo
 use Rattle.diagrams.specs.Noting.{rootNames, noNotes, length-no-notes, no-note, roots-long, roots-has, records-long, records-has}
 use Rattle.check_sizes.specs.Sizes.{Sized}
 use Rattle.swap_rules.specs.Record.{lowOf, highOf, isFreeNode}
-use Rattle.swap_rules.specs.Swap.{crosses, names, dies}
+use Rattle.swap_rules.specs.Swap.{crosses, stillNames, dies}
 use Rattle.swap_records.specs.Kinds.{of-is, ofAt, crossesAt, standsAt}
 use Rattle.swap_records.specs.Listed.{StandingListed}
 use Rattle.swap_records.specs.declared.Pair.{Pair}

@@ -15,7 +15,7 @@ use Rattle.diagrams.specs.Node.{free, pick, at, ref}
 use Rattle.diagrams.specs.Decode.{decode}
 use Rattle.diagrams.specs.Lookup.{lookup, node-of, free-of, past-of, Stored, record-at, stored}
 use Rattle.diagrams.specs.References.{namesRecord, not-inside}
-use Rattle.diagrams.specs.Reduced.{look-plain}
+use Rattle.diagrams.specs.Reduced.{look-ends}
 use Rattle.swap_rules.specs.Record.{lowOf, highOf, isOf, of-true}
 use Rattle.swap_rules.specs.Swap.{grandchild, crosses}
 use Rattle.swap_records.specs.Kinds.{ofAt, crossesAt, standsAt, childAt, of-is}
@@ -40,7 +40,7 @@ module _ (t : List ℕ) (v : ℕ) where
   pub nothing-of : {b : Bool} (x : ℕ) → b ≡ namesRecord t x → b ≡ false → false ≡ isOf v (lookup t x)
   nothing-of x e h =
       none-of x
-      (either-side x 2 (look-plain (at (decode t)) x)
+      (either-side x 2 (look-ends (at (decode t)) x)
       (λ l. let z : x ≡ ref (x - 2) = omega arith in rw z (past-of t (x - 2) (not-inside t x e h l))))
 
 -- ---- a crossing record

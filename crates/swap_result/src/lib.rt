@@ -51,7 +51,7 @@ fn pair_record(v: Variable, pairs: &[u16], k: usize) -> Fields
     requires { ⌜ PairRoom (now pairs) k × (v .0 < 256) ⌝ }
     ensures { λ f. ⌜ (laid f ≡ eight (pairAt (v .0) (now (pairs .entry)) k)) × Fit f ⌝ }
 {
-    Fields::used(v, pairs::low(pairs, k), pairs::high(pairs, k))
+    Fields::new(v, pairs::low(pairs, k), pairs::high(pairs, k))
 }
 
 // Each goes to the record whose number stands at its place in the list.

@@ -9,66 +9,69 @@ use Rattle.lists.specs.Truth.{by, clash}
 use Rattle.diagrams.specs.Node.{Node, free, node, pick}
 use Rattle.diagrams.specs.Bryant.{Nonterminal, Vertex}
 use Rattle.diagrams.specs.Diagram.{Named, Diagram}
-use Rattle.diagrams.specs.Levels.{used, level, free-node}
+use Rattle.diagrams.specs.Levels.{Ends, nonterminal, level, free-node}
 use Rattle.swap_rules.specs.Record.{isOf, UsedOf, of-true, pick-node}
 use Rattle.swap_rules.specs.Swap.{grandchild, crosses}
-use Rattle.swap_rules.specs.Step.{Levels, Asked, Kind, kept, crossed, fresh, gone, Made, Step, OneSwap, grand-of, grand-self, pick-grand, grand-one, crosses-x, stays-child}
-use Rattle.swap_rules.specs.Stays.{Side, New, as-kept, as-crossed, as-fresh, below, x≢y, Deep, deep-child, deep-lives, no-vertex, stays, same-level, deep-level, deep-not-x, lasts, kept-is, x-lives, crossed-is, pick-side, asks, asked-deep, X-vertex, X-level, X-one, cross-unequal, new, child-lives}
+use Rattle.swap_rules.specs.Step.{Levels, Side, Asked, Kind, kept, crossed, fresh, gone, Serves, Step, OneSwap}
+use Rattle.swap_rules.specs.Step.{grand-of, grand-self, pick-grand, grand-one, crosses-x, stays-child}
+use Rattle.swap_rules.specs.Stays.{Origin, as-kept, as-crossed, as-fresh, origin, below, x≢y, no-vertex, lasts, kept-is, x-lives, child-lives}
+use Rattle.swap_rules.specs.Stays.{Deep, deep-child, deep-lives, deep-stays, same-level, deep-level, deep-not-x}
+use Rattle.swap_rules.specs.Stays.{crossed-is, pick-side, asks, asked-deep, X-vertex, X-level, X-one, cross-unequal}
 
 module _ {Terminal : ℕ → Type 0} {L L′ : ℕ → Node} {Root : ℕ → Type 0} {index index′ : ℕ → ℕ} {n k x y : ℕ} {X : ℕ → ℕ → ℕ} {dies : ℕ → Bool}
     (W : OneSwap Terminal L L′ Root index index′ n k x y X dies) where
   abbrev D : Diagram Terminal L Root index n
   D = W .before
 
-  abbrev E : Levels index index′ n k x y
-  E = W .levels
+  abbrev K : Levels index index′ n k x y
+  K = W .levels
 
   abbrev S : Step Terminal L L′ Root x y X dies
   S = W .step
 
-  pub plain-after : (r : ℕ) → Terminal r → L′ r ≡ free
-  plain-after r c = go (S .kind r)
+  pub ends-after : Ends Terminal L′
+  ends-after r c = go (S .kind r)
     where
       go : Kind Terminal L L′ x y X dies r → L′ r ≡ free
-      go (kept e _ _) = e ∙ W .plain r c
-      go (crossed l h e _ _) = free-node (W .plain r c) e
+      go (kept e _ _) = e ∙ W .ends r c
+      go (crossed l h e _ _) = free-node (W .ends r c) e
       go (fresh _ _ d _ _ _ _ _) = absurd (d c)
       go (gone _ e) = e
 
   -- ---- a graph of n arguments
 
-  -- where a variable stands
-  data Place (v : ℕ) : Type 0 where
-    at-x : v ≡ x → Place v
-    at-y : v ≡ y → Place v
-    else : index v ≢ k → index v ≢ k + 1 → index′ v ≡ index v → Place v
+  -- which variable of the swap v is, if any
+  data Stand (v : ℕ) : Type 0 where
+    at-x : v ≡ x → Stand v
+    at-y : v ≡ y → Stand v
+    else : index v ≢ k → index v ≢ k + 1 → index′ v ≡ index v → Stand v
 
-  place : (v : ℕ) → index v < n → Place v
-  place v i = ⊎-elim at-x (λ a. ⊎-elim at-y (λ b. other a b) (decided (says-eqb v y))) (decided (says-eqb v x))
+  stand : (v : ℕ) → index v < n → Stand v
+  stand v i = ⊎-elim at-x (λ a. ⊎-elim at-y (λ b. other a b) (decided (says-eqb v y))) (decided (says-eqb v x))
     where
-      other : v ≢ x → v ≢ y → Place v
-      other a b = else (λ e. a (E .apart v x i (e ∙ sym (E .index-x)))) (λ e. b (E .apart v y i (e ∙ sym (E .index-y)))) (E .others v a b)
+      other : v ≢ x → v ≢ y → Stand v
+      other a b = else (λ e. a (K .apart v x i (e ∙ sym (K .index-x)))) (λ e. b (K .apart v y i (e ∙ sym (K .index-y)))) (K .others v a b)
 
   inside : (v : ℕ) → index v < n → index′ v < n
-  inside v i = go (place v i)
+  inside v i = go (stand v i)
     where
-      go : Place v → index′ v < n
-      go (at-x e) = rw e (omega (arith, E))
-      go (at-y e) = rw e (omega (arith, E))
+      go : Stand v → index′ v < n
+      go (at-x e) = rw e (omega (arith, K))
+      go (at-y e) = rw e (omega (arith, K))
       go (else _ _ e) = rw e i
 
   indexed′ : (r : ℕ) {v l h : ℕ} → L′ r ≡ node v l h → index′ v < n
-  indexed′ r {v} {l} {h} e = go (new W r v l h e)
+  indexed′ r {v} {l} {h} e = go (origin W r v l h e)
     where
-      go : New L x y X dies r v l h → index′ v < n
+      go : Origin L x y X dies r v l h → index′ v < n
       go (as-kept e′ _ _) = inside v (D .graph .indexed r e′)
-      go (as-crossed _ _ _ _ p _) = rw p (omega (arith, E))
-      go (as-fresh _ p _ _ _) = rw p (omega (arith, E))
+      go (as-crossed _ _ _ _ p _) = rw p (omega (arith, K))
+      go (as-fresh _ p _ _ _) = rw p (omega (arith, K))
 
   closed′ : (r : ℕ) {v l h : ℕ} → L′ r ≡ node v l h → (c : Bool) → Vertex Terminal L′ (pick c l h)
-  closed′ r {v} {l} {h} e c = go (new W r v l h e)
+  closed′ r {v} {l} {h} e c = go (origin W r v l h e)
     where
-      go : New L x y X dies r v l h → Vertex Terminal L′ (pick c l h)
+      go : Origin L x y X dies r v l h → Vertex Terminal L′ (pick c l h)
       go (as-kept e′ f _) = lasts W (pick c l h) (D .graph .closed r e′ c) (child-lives W r v l h e′ f c)
       go (as-crossed l₀ h₀ e′ t _ p) = rw (p c) (X-vertex W _ _ (asks W r l₀ h₀ e′ t c))
       go (as-fresh _ _ s _ _) = let d : Deep W (pick c l h) = asked-deep W l h s c in lasts W (pick c l h) (d .0) (deep-lives W (pick c l h) d)
@@ -79,24 +82,24 @@ module _ {Terminal : ℕ → Type 0} {L L′ : ℕ → Node} {Root : ℕ → Typ
   upper-below : (r j : ℕ) → Vertex Terminal L r → dies r ≡ false → j < k → j < level index n (L r) → j < level index′ n (L′ r)
   upper-below r j g f a b = go (S .kind r)
     where
-      same : (m : Node) → L r ≡ m → j < level index′ n m
-      same free e = omega (arith, E)
-      same (node v l h) e = have (place v (D .graph .indexed r e)) (rw e at b)
+      as-it-was : (m : Node) → L r ≡ m → j < level index′ n m
+      as-it-was free e = omega (arith, K)
+      as-it-was (node v l h) e = exchanged (stand v (D .graph .indexed r e)) (rw e at b)
         where
-          have : Place v → j < index v → j < index′ v
-          have (at-x p) _ = rw p (omega (arith, E))
-          have (at-y p) _ = rw p (omega (arith, E))
-          have (else _ _ p) i = rw p i
+          exchanged : Stand v → j < index v → j < index′ v
+          exchanged (at-x p) _ = rw p (omega (arith, K))
+          exchanged (at-y p) _ = rw p (omega (arith, K))
+          exchanged (else _ _ p) i = rw p i
 
       go : Kind Terminal L L′ x y X dies r → j < level index′ n (L′ r)
-      go (kept e _ _) = rw e (same (L r) refl)
-      go (crossed _ _ _ _ e) = rw e (omega (arith, E))
+      go (kept e _ _) = rw e (as-it-was (L r) refl)
+      go (crossed _ _ _ _ e) = rw e (omega (arith, K))
       go (fresh _ _ c (inl e) _ _ _ _) = absurd (no-vertex W r g c e)
       go (fresh _ _ _ (inr t) _ _ _ _) = clash t f
       go (gone t _) = clash t f
 
   kept-below : (q v l h : ℕ) → L q ≡ node v l h → crosses L x y q ≡ false → (c : Bool) → index′ v < level index′ n (L′ (pick c l h))
-  kept-below q v l h e f c = go (place v (D .graph .indexed q e))
+  kept-below q v l h e f c = go (stand v (D .graph .indexed q e))
     where
       r : ℕ
       r = pick c l h
@@ -107,55 +110,55 @@ module _ {Terminal : ℕ → Type 0} {L L′ : ℕ → Node} {Root : ℕ → Typ
       b : index v < level index n (L r)
       b = below W q e c
 
-      go : Place v → index′ v < level index′ n (L′ r)
+      go : Stand v → index′ v < level index′ n (L′ r)
       go (at-x p) =
           let e′ : L q ≡ node x l h = e ∙ ap (λ (u : ℕ). node u l h) p in
           let b′ : index x < level index n (L r) = rw p at b in
-          rw p (omega (arith, E, deep-level W r (deep-child W r g (omega (arith, E)) (stays-child L x y q l h e′ f c))))
+          rw p (omega (arith, K, deep-level W r (deep-child W r g (omega (arith, K)) (stays-child L x y q l h e′ f c))))
       go (at-y p) =
           let b′ : index y < level index n (L r) = rw p at b in
-          rw p (omega (arith, E, deep-level W r (g, omega (arith, E))))
+          rw p (omega (arith, K, deep-level W r (g, omega (arith, K))))
       go (else a a′ p) = rw p (⊎-elim upper lower (decided (says-ltb (index v) k)))
         where
           upper : index v < k → index v < level index′ n (L′ r)
           upper i = upper-below r (index v) g (child-lives W q v l h e f c) i b
 
           lower : (index v < k → ⊥) → index v < level index′ n (L′ r)
-          lower i = let d : Deep W r = (g, omega (arith, b)) in rw (stays W r d, same-level W (L r) (d .1)) b
+          lower i = let d : Deep W r = (g, omega (arith, b)) in rw (deep-stays W r d, same-level W (L r) (d .1)) b
 
   below′ : (r : ℕ) {v l h : ℕ} → L′ r ≡ node v l h → (c : Bool) → index′ v < level index′ n (L′ (pick c l h))
-  below′ r {v} {l} {h} e c = go (new W r v l h e)
+  below′ r {v} {l} {h} e c = go (origin W r v l h e)
     where
-      go : New L x y X dies r v l h → index′ v < level index′ n (L′ (pick c l h))
+      go : Origin L x y X dies r v l h → index′ v < level index′ n (L′ (pick c l h))
       go (as-kept e′ f _) = kept-below r v l h e′ f c
-      go (as-crossed l₀ h₀ e′ t p p′) = rw (p′ c, p) (omega (arith, E, X-level W _ _ (asks W r l₀ h₀ e′ t c)))
-      go (as-fresh _ p s _ _) = rw p (omega (arith, E, deep-level W (pick c l h) (asked-deep W l h s c)))
+      go (as-crossed l₀ h₀ e′ t p p′) = rw (p′ c, p) (omega (arith, K, X-level W _ _ (asks W r l₀ h₀ e′ t c)))
+      go (as-fresh _ p s _ _) = rw p (omega (arith, K, deep-level W (pick c l h) (asked-deep W l h s c)))
 
   -- ---- reduced
 
   unequal′ : (r : ℕ) {v l h : ℕ} → L′ r ≡ node v l h → l ≢ h
-  unequal′ r {v} {l} {h} e = go (new W r v l h e)
+  unequal′ r {v} {l} {h} e = go (origin W r v l h e)
     where
-      go : New L x y X dies r v l h → l ≢ h
+      go : Origin L x y X dies r v l h → l ≢ h
       go (as-kept e′ _ _) = D .unequal r e′
       go (as-crossed l₀ h₀ e′ t _ p) = λ z. cross-unequal W r l₀ h₀ e′ t (sym (p false) ∙ z ∙ p true)
       go (as-fresh _ _ _ d _) = d
 
   -- no kept y record has the children of a crossed one
   kept-crossed : (r l h s l₀ h₀ : ℕ) → L r ≡ node y l h → L s ≡ node x l₀ h₀ → crosses L x y s ≡ true → ((c : Bool) → pick c l h ≡ Side L y X c l₀ h₀) → ⊥
-  kept-crossed r l h s l₀ h₀ e e′ t p = D .unequal s e′ (grand-one D y l₀ h₀ (λ d. same d (S .made _ _ (asks W s l₀ h₀ e′ t d))))
+  kept-crossed r l h s l₀ h₀ e e′ t p = D .unequal s e′ (grand-one D y l₀ h₀ (λ d. same d (S .serves _ _ (asks W s l₀ h₀ e′ t d))))
     where
-      same : (d : Bool) → Made L′ x X (grandchild L y d l₀) (grandchild L y d h₀) → grandchild L y d l₀ ≡ grandchild L y d h₀
+      same : (d : Bool) → Serves L′ x X (grandchild L y d l₀) (grandchild L y d h₀) → grandchild L y d l₀ ≡ grandchild L y d h₀
       same d (inl z) = z .0
-      same d (inr z) = absurd (deep-not-x W (pick d l h) _ _ (D .graph .closed r e d, omega (arith, E, below W r e d)) (ap L′ (p d) ∙ z .1))
+      same d (inr z) = absurd (deep-not-x W (pick d l h) _ _ (D .graph .closed r e d, omega (arith, K, below W r e d)) (ap L′ (p d) ∙ z .1))
 
   single′ : (r s : ℕ) {v l h : ℕ} → L′ r ≡ node v l h → L′ s ≡ node v l h → r ≡ s
-  single′ r s {v} {l} {h} e e′ = go (new W r v l h e) (new W s v l h e′)
+  single′ r s {v} {l} {h} e e′ = go (origin W r v l h e) (origin W s v l h e′)
     where
       both : {A : Type 0} → v ≡ y → v ≡ x → A
       both p q = absurd (x≢y W (sym q ∙ p))
 
-      go : New L x y X dies r v l h → New L x y X dies s v l h → r ≡ s
+      go : Origin L x y X dies r v l h → Origin L x y X dies s v l h → r ≡ s
       go (as-kept a _ _) (as-kept b _ _) = D .single r s a b
       go (as-kept a _ _) (as-crossed l₀ h₀ b t p q) = absurd (kept-crossed r l h s l₀ h₀ (rw p at a) b t q)
       go (as-kept a c _) (as-fresh _ p _ _ i) = absurd (i r (rw p at a) c)
@@ -186,18 +189,18 @@ module _ {Terminal : ℕ → Type 0} {L L′ : ℕ → Node} {Root : ℕ → Typ
 
   -- the grandchildren that X is asked for are named afterwards, by the asker or by what was made
   parts-named : (a b : ℕ) → Asked L x y a b → (c : Bool) → Named L′ (pick c a b)
-  parts-named a b s c = go (S .made a b s)
+  parts-named a b s c = go (S .serves a b s)
     where
       one : (c : Bool) → a ≡ b → pick c a b ≡ a
       one true p = sym p
       one false p = refl
 
-      go : Made L′ x X a b → Named L′ (pick c a b)
+      go : Serves L′ x X a b → Named L′ (pick c a b)
       go (inl p) = rw (one c (p .0), ← p .1) (asked-named a b s)
       go (inr p) = record { parent = X a b; variable = x; low = a; high = b; is = p .1; side = c; names = refl }
 
-  still : (r : ℕ) (m : Named L r) → crosses L x y (m .parent) ≡ false → dies (m .parent) ≡ false → Named L′ r
-  still r m c f = record {
+  still-named : (r : ℕ) (m : Named L r) → crosses L x y (m .parent) ≡ false → dies (m .parent) ≡ false → Named L′ r
+  still-named r m c f = record {
     parent = m .parent;
     variable = m .variable;
     low = m .low;
@@ -233,27 +236,30 @@ module _ {Terminal : ℕ → Type 0} {L L′ : ℕ → Node} {Root : ℕ → Typ
 
       go : Root r ⊎ ((m : Named L r) × (crosses L x y (m .parent) ≡ false)) → Root r ⊎ Named L′ r
       go (inl o) = inl o
-      go (inr m) = inr (still r (m .0) (m .1) (alive (m .0) (by (dies (m .0 .parent)))))
+      go (inr m) = inr (still-named r (m .0) (m .1) (alive (m .0) (by (dies (m .0 .parent)))))
 
   -- another record: where its parent crosses, it is its own grandchild; where its parent dies, it is the grandchild of one that crosses
   other-named : (r : ℕ) → isOf y (L r) ≡ false → Named L r → Named L′ r
-  other-named r t m = some (by (crosses L x y (m .parent)))
+  other-named r t m = go (by (crosses L x y (m .parent)))
     where
-      upper : (q : ℕ) (w : UsedOf y (L q)) (d : Bool) → pick d (w .low) (w .high) ≡ r → dies q ≡ true → (p : Named L q) → (crosses L x y (p .parent) ≡ true) ⊎ (crosses L x y (p .parent) ≡ false) → Named L′ r
-      upper q w d z e p (inl c) = subst (λ (s : ℕ). Named L′ s) (grand-of L y q w d ∙ z) (cross-named q p d c)
-      upper q w d z e p (inr c) = absurd (S .dies-named q p e c)
+      grandparent : (q : ℕ) (w : UsedOf y (L q)) (d : Bool) → pick d (w .low) (w .high) ≡ r → dies q ≡ true → (p : Named L q)
+          → (crosses L x y (p .parent) ≡ true) ⊎ (crosses L x y (p .parent) ≡ false) → Named L′ r
+      grandparent q w d z e p (inl c) = subst (λ (s : ℕ). Named L′ s) (grand-of L y q w d ∙ z) (cross-named q p d c)
+      grandparent q w d z e p (inr c) = absurd (S .dies-named q p e c)
 
-      dead : dies (m .parent) ≡ true → (w : UsedOf y (L (m .parent))) → Root (m .parent) ⊎ Named L (m .parent) → Named L′ r
-      dead e w (inl o) = absurd (S .dies-root (m .parent) e o)
-      dead e w (inr p) = upper (m .parent) w (m .side) (named-as r m (w .is)) e p (by (crosses L x y (p .parent)))
+      parent-dies : dies (m .parent) ≡ true → (w : UsedOf y (L (m .parent))) → Root (m .parent) ⊎ Named L (m .parent) → Named L′ r
+      parent-dies e w (inl o) = absurd (S .dies-root (m .parent) e o)
+      parent-dies e w (inr p) = grandparent (m .parent) w (m .side) (named-as r m (w .is)) e p (by (crosses L x y (p .parent)))
 
-      more : crosses L x y (m .parent) ≡ false → (dies (m .parent) ≡ true) ⊎ (dies (m .parent) ≡ false) → Named L′ r
-      more c (inl e) = let w : UsedOf y (L (m .parent)) = S .dies-y (m .parent) e in dead e w (D .named (m .parent) (used (w .is)))
-      more c (inr d) = still r m c d
+      parent-stays : crosses L x y (m .parent) ≡ false → (dies (m .parent) ≡ true) ⊎ (dies (m .parent) ≡ false) → Named L′ r
+      parent-stays c (inl e) =
+          let w : UsedOf y (L (m .parent)) = S .dies-y (m .parent) e in
+          parent-dies e w (D .named (m .parent) (nonterminal (w .is)))
+      parent-stays c (inr d) = still-named r m c d
 
-      some : (crosses L x y (m .parent) ≡ true) ⊎ (crosses L x y (m .parent) ≡ false) → Named L′ r
-      some (inl c) = subst (λ (s : ℕ). Named L′ s) (grand-self L y r true t) (cross-named r m true c)
-      some (inr c) = more c (by (dies (m .parent)))
+      go : (crosses L x y (m .parent) ≡ true) ⊎ (crosses L x y (m .parent) ≡ false) → Named L′ r
+      go (inl c) = subst (λ (s : ℕ). Named L′ s) (grand-self L y r true t) (cross-named r m true c)
+      go (inr c) = parent-stays c (by (dies (m .parent)))
 
   -- a record that is used before and does not die
   pub lasting-named : (r : ℕ) → Nonterminal L r → dies r ≡ false → Root r ⊎ Named L′ r
@@ -264,16 +270,16 @@ module _ {Terminal : ℕ → Type 0} {L L′ : ℕ → Node} {Root : ℕ → Typ
       go (inr t) = ⊎-elim inl (λ m. inr (other-named r t m)) (D .named r u)
 
   named′ : (r : ℕ) → Nonterminal L′ r → Root r ⊎ Named L′ r
-  named′ r u = go (new W r (u .variable) (u .low) (u .high) (u .is))
+  named′ r u = go (origin W r (u .variable) (u .low) (u .high) (u .is))
     where
-      made : (l h : ℕ) → L′ r ≡ node x l h → Asked L x y l h → l ≢ h → Made L′ x X l h → Named L′ r
+      made : (l h : ℕ) → L′ r ≡ node x l h → Asked L x y l h → l ≢ h → Serves L′ x X l h → Named L′ r
       made l h e s d (inl z) = absurd (d (z .0))
       made l h e s d (inr z) = subst (λ (q : ℕ). Named L′ q) (single′ (X l h) r (z .1) e) (asked-named l h s)
 
-      go : New L x y X dies r (u .variable) (u .low) (u .high) → Root r ⊎ Named L′ r
-      go (as-kept e f d) = lasting-named r (used e) d
-      go (as-crossed l₀ h₀ e _ _ _) = lasting-named r (used e) (x-lives W r l₀ h₀ e)
-      go (as-fresh _ p s d _) = inr (made (u .low) (u .high) (rw p at (u .is)) s d (S .made (u .low) (u .high) s))
+      go : Origin L x y X dies r (u .variable) (u .low) (u .high) → Root r ⊎ Named L′ r
+      go (as-kept e f d) = lasting-named r (nonterminal e) d
+      go (as-crossed l₀ h₀ e _ _ _) = lasting-named r (nonterminal e) (x-lives W r l₀ h₀ e)
+      go (as-fresh _ p s d _) = inr (made (u .low) (u .high) (rw p at (u .is)) s d (S .serves (u .low) (u .high) s))
 
   -- ---- roots
 

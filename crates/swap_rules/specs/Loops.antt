@@ -15,8 +15,17 @@ use Rattle.swap_rules.specs.Record.{same, says-same}
 use Rattle.swap_rules.specs.Swap.{normal, asked, bothAsked, crossing, isNew, wanted, news}
 
 module _ (E : Edition) (T : ℕ → Node) (N x y : ℕ) where
+  -- of the records asked for, those that have to be made, each once
+  abbrev newOf : List Node → List Node
+  newOf l = once same (keep (isNew E T N x y) l)
+
+  -- what record i asks for, for its low side or its high one
+  abbrev askedBy : ℕ → Bool → Node
+  askedBy i side = normal E (asked (seen E T) x y side (ref i))
+
+  -- the new records that the first i records ask for
   unfoldable pub newsTo : ℕ → List Node
-  newsTo i = once same (keep (isNew E T N x y) (each (bothAsked E T x y) (which (crossing E T x y) i)))
+  newsTo i = newOf (each (bothAsked E T x y) (which (crossing E T x y) i))
 
   -- w is asked for: one that has to be made, and is not among those made, goes to the end
   unfoldable pub noted : List Node → Node → List Node
@@ -30,28 +39,34 @@ module _ (E : Edition) (T : ℕ → Node) (N x y : ℕ) where
   unfolding newsTo news wanted
   news-end = refl
 
-  note : (l : List Node) (w : Node) → once same (keep (isNew E T N x y) (l ++ (w ∷ []))) ≡ noted (once same (keep (isNew E T N x y) l)) w
+  new-noted : (l : List Node) (w : Node) → newOf (l ++ (w ∷ [])) ≡ noted (newOf l) w
   unfolding noted keep
-  note l w = ap (once same) (keep-append (isNew E T N x y) l (w ∷ [])) ∙ go (isNew E T N x y w)
+  new-noted l w = ap (once same) (keep-append (isNew E T N x y) l (w ∷ [])) ∙ go (isNew E T N x y w)
     where
-      k : List Node
-      k = keep (isNew E T N x y) l
+      kept : List Node
+      kept = keep (isNew E T N x y) l
 
-      go : (u : Bool) → once same (k ++ cond u (w ∷ []) []) ≡ cond u (cond (any (λ j. same w (getD (once same k) j free)) (length (once same k))) (once same k) (once same k ++ (w ∷ []))) (once same k)
-      go true = once-more same says-same k w free
-      go false = ap (once same) (append-nil k)
+      made : List Node
+      made = once same kept
 
-  pub news-more : (i : ℕ) → newsTo (suc i) ≡ cond (crossing E T x y i) (noted (noted (newsTo i) (normal E (asked (seen E T) x y false (ref i)))) (normal E (asked (seen E T) x y true (ref i)))) (newsTo i)
+      go : (u : Bool) → once same (kept ++ cond u (w ∷ []) []) ≡ cond u (cond (any (λ j. same w (getD made j free)) (length made)) made (made ++ (w ∷ []))) made
+      go true = once-more same says-same kept w free
+      go false = ap (once same) (append-nil kept)
+
+  both-noted : (l : List Node) (v w : Node) → newOf (l ++ (v ∷ w ∷ [])) ≡ noted (noted (newOf l) v) w
+  both-noted l v w =
+      ap newOf (sym (append-assoc l (v ∷ []) (w ∷ [])))
+      ∙ new-noted (l ++ (v ∷ [])) w
+      ∙ ap (λ (s : List Node). noted s w) (new-noted l v)
+
+  pub news-more : (i : ℕ) → newsTo (suc i) ≡ cond (crossing E T x y i) (noted (noted (newsTo i) (askedBy i false)) (askedBy i true)) (newsTo i)
   unfolding newsTo which each
-  news-more i = ap (λ (l : List Node). once same (keep (isNew E T N x y) l)) (each-append (bothAsked E T x y) before _) ∙ go (crossing E T x y i)
+  news-more i = ap newOf (each-append (bothAsked E T x y) (which (crossing E T x y) i) _) ∙ go (crossing E T x y i)
     where
-      before : List ℕ
-      before = which (crossing E T x y) i
+      before : List Node
+      before = each (bothAsked E T x y) (which (crossing E T x y) i)
 
-      go : (u : Bool) → once same (keep (isNew E T N x y) (each (bothAsked E T x y) before ++ each (bothAsked E T x y) (cond u (i ∷ []) [])))
-          ≡ cond u (noted (noted (once same (keep (isNew E T N x y) (each (bothAsked E T x y) before))) (normal E (asked (seen E T) x y false (ref i)))) (normal E (asked (seen E T) x y true (ref i)))) (once same (keep (isNew E T N x y) (each (bothAsked E T x y) before)))
-      go true =
-          ap (λ (l : List Node). once same (keep (isNew E T N x y) l)) (sym (append-assoc (each (bothAsked E T x y) before) (normal E (asked (seen E T) x y false (ref i)) ∷ []) (normal E (asked (seen E T) x y true (ref i)) ∷ [])))
-          ∙ note (each (bothAsked E T x y) before ++ (normal E (asked (seen E T) x y false (ref i)) ∷ [])) (normal E (asked (seen E T) x y true (ref i)))
-          ∙ ap (λ (l : List Node). noted l (normal E (asked (seen E T) x y true (ref i)))) (note (each (bothAsked E T x y) before) (normal E (asked (seen E T) x y false (ref i))))
-      go false = ap (λ (l : List Node). once same (keep (isNew E T N x y) l)) (append-nil (each (bothAsked E T x y) before))
+      go : (u : Bool) → newOf (before ++ each (bothAsked E T x y) (cond u (i ∷ []) []))
+          ≡ cond u (noted (noted (newOf before) (askedBy i false)) (askedBy i true)) (newOf before)
+      go true = both-noted before (askedBy i false) (askedBy i true)
+      go false = ap newOf (append-nil before)

@@ -28,7 +28,8 @@ module _ (E : Edition) (b : ℕ) (g : E .inverted b ≡ true) (T : ℕ → Node)
       both true l h = side d l h
       both false l h = refl
 
-      go : (m : Node) → cond (isOf y (turned E true m)) (pick d (lowOf (turned E true m)) (highOf (turned E true m))) (E .opposite r) ≡ E .opposite (cond (isOf y m) (pick d (lowOf m) (highOf m)) r)
+      go : (m : Node) → cond (isOf y (turned E true m)) (pick d (lowOf (turned E true m)) (highOf (turned E true m))) (E .opposite r)
+          ≡ E .opposite (cond (isOf y m) (pick d (lowOf m) (highOf m)) r)
       go free = refl
       go (node v l h) = both (eqb v y) l h
 
@@ -70,5 +71,7 @@ unfolding highOf
 normal-node E v l h = turned-node E (E .inverted h) v l h
 
 -- the record behind a reference that names a used one
-pub behind-seen : (E : Edition) (T : ℕ → Node) (r : ℕ) {v l h : ℕ} → seen E T r ≡ node v l h → Behind T (bare E r) (node v (invert E (E .inverted r) l) (invert E (E .inverted r) h))
-behind-seen E T r {v} {l} {h} e = behind T (bare E r) (sym (turned-back E r (look T (bare E r))) ∙ ap (turned E (E .inverted r)) e ∙ turned-node E (E .inverted r) v l h)
+pub behind-seen : (E : Edition) (T : ℕ → Node) (r : ℕ) {v l h : ℕ} → seen E T r ≡ node v l h
+    → Behind T (bare E r) (node v (invert E (E .inverted r) l) (invert E (E .inverted r) h))
+behind-seen E T r {v} {l} {h} e =
+    behind T (bare E r) (sym (turned-back E r (look T (bare E r))) ∙ ap (turned E (E .inverted r)) e ∙ turned-node E (E .inverted r) v l h)

@@ -16,26 +16,30 @@ use Rattle.diagrams.specs.Edition.{Edition, plain, bare, turned, seen, Upright,
 use Rattle.orders.specs.Permutation.{Permutation, levelOf, level-of-at, at-level-of, same-place}
 use Rattle.orders.specs.Exchange.{exchange, exchange-upper, exchange-lower, exchange-other}
 use Rattle.swap_rules.specs.Record.{isFreeNode}
-use Rattle.swap_rules.specs.Swap.{xAt, yAt, slots, freeCount, fits, after, swapped}
+use Rattle.swap_rules.specs.Swap.{xAt, yAt, slots, freeCount, fits, recordAfter, swapped}
 use Rattle.swap_rules.specs.Step.{Levels}
-use Rattle.swap_rules.specs.Computed.{Room, after-past, after-upright}
+use Rattle.swap_rules.specs.Fitting.{Fitting}
+use Rattle.swap_rules.specs.Computed.{after-past, after-upright}
 
 -- ---- the order
 
--- "The two order bytes are exchanged": the levels of x and y change places
-pub exchange-levels : (ord : List ℕ) (k : ℕ) → Permutation ord → k + 1 < length ord → Levels (levelOf ord) (levelOf (exchange ord k)) (length ord) k (xAt ord k) (yAt ord k)
+-- step 4, the exchange of two bytes of the order: the levels of x and y change places, and no other one changes
+pub exchange-levels : (ord : List ℕ) (k : ℕ) → Permutation ord → k + 1 < length ord
+    → Levels (levelOf ord) (levelOf (exchange ord k)) (length ord) k (xAt ord k) (yAt ord k)
 exchange-levels ord k P b = record {
-  room = b;
+  pair-inside = b;
   index-x = level-of-at ord k P (omega arith);
   index-y = level-of-at ord (k + 1) P b;
   index′-x = exchange-upper ord k P b;
   index′-y = exchange-lower ord k P b;
   others = exchange-other ord k P b;
-  apart = λ v w l e. let m : levelOf ord w < length ord = rw e at l in sym (at-level-of ord v l) ∙ ap (λ (i : ℕ). getD ord i 0) e ∙ at-level-of ord w m;
+  apart = λ v w l e.
+      let m : levelOf ord w < length ord = rw e at l in
+      sym (at-level-of ord v l) ∙ ap (λ (i : ℕ). getD ord i 0) e ∙ at-level-of ord w m;
 }
 
-pub differ : (ord : List ℕ) (k : ℕ) → Permutation ord → k + 1 < length ord → xAt ord k ≢ yAt ord k
-differ ord k P b e = let z : k ≡ k + 1 = same-place ord k (k + 1) P (omega arith) b e in omega arith
+pair-differs : (ord : List ℕ) (k : ℕ) → Permutation ord → k + 1 < length ord → xAt ord k ≢ yAt ord k
+pair-differs ord k P b e = let z : k ≡ k + 1 = same-place ord k (k + 1) P (omega arith) b e in omega arith
 
 -- ---- the table afterwards, record by record
 
@@ -48,33 +52,40 @@ pub record Written (E : Edition) (t : List Node) : Type 0 where
 pub plain-written : (t : List Node) → Written plain t
 plain-written t = record { own = λ i l. refl; upright = λ i v l h e. refl }
 
--- slots enough, where needed is not above free
-pub room : (E : Edition) (t : List Node) (x y : ℕ) → Written E t → x ≢ y → fits E (at t) (length t) x y ≡ true → Room E (at t) (length t) x y
+-- the levels k and k + 1 of an order can be swapped in the table t
+pub record Swappable (E : Edition) (t : List Node) (ord : List ℕ) (k : ℕ) : Type 0 where
+  pub written : Written E t
+  pub order : Permutation ord
+  pub level : k + 1 < length ord
+  pub fit : fits E (at t) (length t) (xAt ord k) (yAt ord k) ≡ true
+
+-- there are slots enough, as needed is not above free
+pub fitting : {E : Edition} {t : List Node} {ord : List ℕ} {k : ℕ} → Swappable E t ord k → Fitting E (at t) (length t) (xAt ord k) (yAt ord k)
 unfolding fits freeCount slots
-room E t x y w d e = record {
-  differ = d;
+fitting {E} {t} {ord} {k} S = record {
+  differ = pair-differs ord k (S .order) (S .level);
   past = λ i l. List·getD-eq-default t free l;
-  own = w .own;
-  upright = w .upright;
-  fit = rw (which-length (λ i. isFreeNode (at t i)) (length t)) (leb-true _ _ e);
+  own = S .written .own;
+  upright = S .written .upright;
+  fit = rw (which-length (λ i. isFreeNode (at t i)) (length t)) (leb-true _ _ (S .fit));
 }
 
 module _ (E : Edition) (t : List Node) (x y : ℕ) (roots : List ℕ) where
+  abbrev After : ℕ → Node
+  After = recordAfter E (at t) (length t) x y roots
+
   pub length-swapped : length (swapped E t x y roots) ≡ length t
   unfolding swapped
-  length-swapped = length-tabulate (length t) (after E (at t) (length t) x y roots)
+  length-swapped = length-tabulate (length t) After
 
-  module _ (R : Room E (at t) (length t) x y) where
-    abbrev After : ℕ → Node
-    After = after E (at t) (length t) x y roots
+  pub swapped-in : (i : ℕ) → i < length t → at (swapped E t x y roots) i ≡ After i
+  unfolding swapped
+  swapped-in i l = getD-tabulate (length t) After i free l
 
-    pub swapped-in : (i : ℕ) → i < length t → at (swapped E t x y roots) i ≡ After i
-    unfolding swapped
-    swapped-in i l = getD-tabulate (length t) After i free l
+  swapped-past : (i : ℕ) → length t ≤ i → at (swapped E t x y roots) i ≡ free
+  swapped-past i l = let h : length (swapped E t x y roots) ≤ i = rw length-swapped l in List·getD-eq-default (swapped E t x y roots) free h
 
-    swapped-past : (i : ℕ) → length t ≤ i → at (swapped E t x y roots) i ≡ free
-    swapped-past i l = let h : length (swapped E t x y roots) ≤ i = rw length-swapped l in List·getD-eq-default (swapped E t x y roots) free h
-
+  module _ (R : Fitting E (at t) (length t) x y) where
     swapped-at : (i : ℕ) → E .inverted (ref i) ≡ false → at (swapped E t x y roots) i ≡ After i
     swapped-at i n = either-side i (length t) (swapped-in i) (λ l. swapped-past i l ∙ sym (after-past R roots i l n))
 
@@ -88,4 +99,10 @@ module _ (E : Edition) (t : List Node) (x y : ℕ) (roots : List ℕ) where
     swapped-seen = fun-ext (λ r. ap (turned E (E .inverted r)) (swapped-look (bare E r) (bare-upright E r)))
 
     pub swapped-written : Written E (swapped E t x y roots)
-    swapped-written = record { own = λ i l. R .own i (rw length-swapped at l); upright = λ i v l h e. either-side i (length t) (λ b. after-upright R roots i v l h b (sym (swapped-in i b) ∙ e)) (λ b. free-node (swapped-past i b) e) }
+    swapped-written = record {
+      own = λ i l. R .own i (rw length-swapped at l);
+      upright = λ i v l h e.
+          either-side i (length t)
+          (λ b. after-upright R roots i v l h b (sym (swapped-in i b) ∙ e))
+          (λ b. free-node (swapped-past i b) e);
+    }

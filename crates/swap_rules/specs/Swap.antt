@@ -1,8 +1,10 @@
--- "One swap" (document 01, and request L11 for the edition with inverted references): what becomes of each record, read wholly from the table before the swap.
--- In the plain edition `seen E T` is `look T`, `oneRecord E` is `eqb`, `normal E w` is w, and `invert E (E .inverted b) r` is r.
+-- One swap of the levels k and k + 1, by the steps of document 01, "One swap": what becomes of each record, read wholly from the table before.
+-- E is the edition of the table. In the plain edition its words say nothing new: `seen E T r` is the record that r names, `look T r`;
+-- `oneRecord E q r` asks whether q is r; `normal E w` is w; and `invert E (E .inverted b) r` is r (`plain-words`).
 use Prim.Native.Nat.{ℕ, _+_}
 use mathlib.Core.Bool.{Bool, true, false, cond, not, _&&_, _||_}
 use mathlib.Core.List.{List, [], _∷_}
+use mathlib.Core.Path.{_≡_, refl}
 use lib.Dec.{eqb, ltb, leb}
 use lib.ListN.{length, getD}
 use Rattle.lists.specs.First.{first, any}
@@ -12,26 +14,27 @@ use Rattle.lists.specs.Keep.{keep}
 use Rattle.lists.specs.Which.{which}
 use Rattle.lists.specs.Each.{each}
 use Rattle.lists.specs.Once.{once}
-use Rattle.diagrams.specs.Node.{Node, free, node, pick, at, ref}
-use Rattle.diagrams.specs.Edition.{Edition, invert, oneRecord, turned, seen}
+use Rattle.diagrams.specs.Node.{Node, free, node, pick, at, ref, look}
+use Rattle.diagrams.specs.Edition.{Edition, plain, invert, oneRecord, turned, seen}
 use Rattle.swap_rules.specs.Record.{lowOf, highOf, isFreeNode, isUsedNode, isOf, same}
 
--- "Let x be the variable at level k and y the one at k+1."
+-- x is the variable of the upper of the two levels, y that of the lower one
 abbrev pub xAt : List ℕ → ℕ → ℕ
 xAt ord k = getD ord k 0
 
 abbrev pub yAt : List ℕ → ℕ → ℕ
 yAt ord k = getD ord (k + 1) 0
 
--- ---- L r is the record that the reference r names. Seen through an inverted reference it has the opposites of its references: "grandchildren reached through an inverted reference are inverted"
+-- ---- by references: L r is the record that r names. Through an inverted reference it is seen with the opposites of its own
+-- references, so that what is reached through it is inverted too
 
 module _ (L : ℕ → Node) where
   module _ (y : ℕ) where
-    -- "a child that isn't a y record counts as both of its own grandchildren": the one through the child c, on the low side (false) or the high one (true)
+    -- the grandchild through the child c: the low (false) or high (true) reference of a y record; any other c is both of its grandchildren
     unfoldable pub grandchild : Bool → ℕ → ℕ
     grandchild side c = cond (isOf y (L c)) (pick side (lowOf (L c)) (highOf (L c))) c
 
-    -- "the four grandchildren are f00, f01, f10, f11, first digit by x, second by y"
+    -- the four grandchildren of r: the first digit is the value of x, by which the child is taken, the second that of y
     unfoldable pub f00 : ℕ → ℕ
     f00 r = grandchild false (lowOf (L r))
 
@@ -45,109 +48,117 @@ module _ (L : ℕ → Node) where
     f11 r = grandchild true (highOf (L r))
 
   module _ (x y : ℕ) where
-    -- "An x record crosses if at least one child is a y record."
+    -- an x record crosses where its low or its high child, or both, is a y record
     unfoldable pub crosses : ℕ → Bool
     crosses r = isOf x (L r) && (isOf y (L (lowOf (L r))) || isOf y (L (highOf (L r))))
 
-    -- the x records that a crossing one asks for: "low = X(f00, f10) and high = X(f01, f11)"
+    -- the x records that a crossing one asks for: x (f00, f10) for its low side (false), x (f01, f11) for its high side (true)
     unfoldable pub asked : Bool → ℕ → Node
     asked false r = node x (f00 y r) (f10 y r)
     asked true r = node x (f01 y r) (f11 y r)
 
--- "where b of X(a, b) is inverted, the record sought or made holds both opposites": what stands for w = x (a, b)
+-- the record that is looked for or made where w is asked for: w itself, or, where w's high is inverted, the one with the opposites of both
 abbrev pub normal : Edition → Node → Node
 normal E w = turned E (E .inverted (highOf w)) w
 
--- ---- T i is record i: N of them, and free past these. Each word takes of the edition, the records, their number, x, y and the roots what it uses
+-- what the words of the edition come to in the plain one
+plain-words : (T : ℕ → Node) (w : Node) (b q r : ℕ)
+    → (seen plain T r ≡ look T r) × (oneRecord plain q r ≡ eqb q r) × (normal plain w ≡ w) × (invert plain (plain .inverted b) r ≡ r)
+plain-words T w b q r = (refl, refl, refl, refl)
+
+-- ---- by record numbers: T i is record i of a table of N records; past these all is free
 
 module _ (E : Edition) (T : ℕ → Node) (x y : ℕ) where
   -- record i crosses
   abbrev pub crossing : ℕ → Bool
   crossing i = crosses (seen E T) x y (ref i)
 
-  -- record j is "the x record with low a and high b, .. a non-crossing one"
+  -- record j is w, and does not cross
   unfoldable pub stands : Node → ℕ → Bool
   stands w j = same w (T j) && not (crossing j)
 
-  -- what record i asks for, "low settled first"
+  -- what record i asks for, low before high
   abbrev pub bothAsked : ℕ → List Node
   bothAsked i = normal E (asked (seen E T) x y false (ref i)) ∷ normal E (asked (seen E T) x y true (ref i)) ∷ []
 
-  -- "Others stay as they are": record j is used, stays as it is, and names r
-  unfoldable pub names : ℕ → ℕ → Bool
-  names r j = isUsedNode (T j) && not (crossing j) && (oneRecord E (lowOf (T j)) r || oneRecord E (highOf (T j)) r)
+  -- record j is used and does not cross, so it keeps its references; and one of these names the record of r
+  unfoldable pub stillNames : ℕ → ℕ → Bool
+  stillNames r j = isUsedNode (T j) && not (crossing j) && (oneRecord E (lowOf (T j)) r || oneRecord E (highOf (T j)) r)
 
 module _ (T : ℕ → Node) (N : ℕ) where
-  -- where the new records go, first to last: each "in the lowest-numbered free record". What dies is none of them: "It can be used from the next swap on."
+  -- where new records go, one after the other: the records that were free before the swap, lowest number first.
+  -- What dies in this swap is none of them; the next swap finds it free
   unfoldable pub slots : List ℕ
   slots = which (λ i. isFreeNode (T i)) N
 
-  -- which of the slots record i is
-  unfoldable pub turn : ℕ → ℕ
-  turn i = first (λ j. eqb (getD slots j 0) i) (length slots)
+  -- which of the slots record i is; the number of slots for one that is none
+  unfoldable pub slotIndex : ℕ → ℕ
+  slotIndex i = first (λ j. eqb (getD slots j 0) i) (length slots)
 
-  -- "free the number of free records before the swap"
+  -- free: how many records are free before the swap
   unfoldable pub freeCount : ℕ
   freeCount = count (λ i. isFreeNode (T i)) N
 
-  -- how many of the records are used
+  -- and how many are used
   unfoldable pub usedCount : ℕ
   usedCount = count (λ i. isUsedNode (T i)) N
 
 module _ (E : Edition) (T : ℕ → Node) (N x y : ℕ) where
-  -- w = x (a, b) has to be made: a isn't b, and no non-crossing record is w
+  -- w has to be made: its low is not its high, and no record that does not cross is w
   unfoldable pub isNew : Node → Bool
   isNew w = not (eqb (lowOf w) (highOf w)) && not (any (stands E T x y w) N)
 
-  -- "Crossing records are taken in rising record number": all that is asked for, in this order
+  -- all that is asked for: by the crossing records in rising record number, by each low before high
   unfoldable pub wanted : List Node
   wanted = each (bothAsked E T x y) (which (crossing E T x y) N)
 
-  -- the new records, in the order of first need: "one made in this swap" serves again
+  -- the new records, in the order in which they are first asked for; each is made once, and serves again where it is asked for again
   unfoldable pub news : List Node
   news = once same (keep isNew wanted)
 
-  -- where the new record w goes
+  -- the record number that the new record w gets
   unfoldable pub slotOf : Node → ℕ
   slotOf w = getD (slots T N) (first (λ j. same w (getD news j free)) (length news)) 0
 
-  -- the record w, "if a non-crossing one or one made in this swap exists; otherwise a new one"
+  -- the record number of w: of a record that is w and does not cross, where there is one; otherwise of the new record w
   abbrev pub placed : Node → ℕ
   placed w = cond (any (stands E T x y w) N) (first (stands E T x y w) N) (slotOf w)
 
-  -- "X(a, b) is a where a equals b; otherwise the x record with low a and high b"; where b is inverted, "the reference to it is inverted"
+  -- X(a, b): a itself where b is the same; otherwise the reference of the x record with low a and high b.
+  -- Where b is inverted, that record has the opposites of both, and so X(a, b) is the opposite of its reference
   unfoldable pub X : ℕ → ℕ → ℕ
   X a b = cond (eqb a b) a (invert E (E .inverted b) (ref (placed (normal E (node x a b)))))
 
-  -- "Each .. becomes a y record with low = X(f00, f10) and high = X(f01, f11)"
+  -- what a crossing record becomes: the y record with low X(f00, f10) and high X(f01, f11)
   unfoldable pub becomes : ℕ → Node
   becomes r = node y (X (f00 (seen E T) y r) (f10 (seen E T) y r)) (X (f01 (seen E T) y r) (f11 (seen E T) y r))
 
-  -- "Needed is the number of new records in step 2"
+  -- needed: how many new records the swap makes
   unfoldable pub needed : ℕ
   needed = length news
 
-  -- "No room is given exactly when needed is above free."
+  -- there is room exactly where needed is not above free
   unfoldable pub fits : Bool
   fits = leb needed (freeCount T N)
 
   -- a new record goes to record i
   unfoldable pub filled : ℕ → Bool
-  filled i = ltb (turn T N i) needed
+  filled i = ltb (slotIndex T N i) needed
 
   module _ (roots : List ℕ) where
-    -- "each y record from before that no root and no record names any more": crossed and new records name no y record from before
+    -- the y record of r dies: no root names it, and no record that keeps its references. Crossed and new records name no y record
+    -- from before, so that afterwards nothing at all names it (`dies-exactly` of Theorem)
     unfoldable pub dies : ℕ → Bool
-    dies r = isOf y (seen E T r) && not (any (λ k. oneRecord E (getD roots k 0) r) (length roots)) && not (any (names E T x y r) N)
+    dies r = isOf y (seen E T r) && not (any (λ k. oneRecord E (getD roots k 0) r) (length roots)) && not (any (stillNames E T x y r) N)
 
     -- how many records die
-    unfoldable pub dying : ℕ
-    dying = count (λ i. dies (ref i)) N
+    unfoldable pub dyingCount : ℕ
+    dyingCount = count (λ i. dies (ref i)) N
 
-    -- record i afterwards. Each crossing record "keeps its number"; what dies "becomes a free record"; "Nothing else changes."
-    unfoldable pub after : ℕ → Node
-    after i = cond (crossing E T x y i) (becomes (ref i)) (cond (filled i) (getD news (turn T N i) free) (cond (dies (ref i)) free (T i)))
+    -- record i afterwards: a crossing one keeps its number, a slot holds its new record, what dies is free, and any other is as it was
+    unfoldable pub recordAfter : ℕ → Node
+    recordAfter i = cond (crossing E T x y i) (becomes (ref i)) (cond (filled i) (getD news (slotIndex T N i) free) (cond (dies (ref i)) free (T i)))
 
--- a whole table afterwards
+-- the whole table afterwards
 unfoldable pub swapped : Edition → List Node → ℕ → ℕ → List ℕ → List Node
-swapped E t x y roots = tabulate (length t) (after E (at t) (length t) x y roots)
+swapped E t x y roots = tabulate (length t) (recordAfter E (at t) (length t) x y roots)

@@ -31,13 +31,16 @@ module _ (T : ℕ → Node) (N x y : ℕ) where
   wanted-small : length (wanted plain T N x y) ≤ 2 * N
   unfolding wanted
   wanted-small =
-      omega (arith, each-length (bothAsked plain T x y) 2 (λ i. refl) (which (crossing plain T x y) N), which-length (crossing plain T x y) N, count-small (crossing plain T x y) N)
+      let crossers : List ℕ = which (crossing plain T x y) N in
+      omega (arith, each-length (bothAsked plain T x y) 2 (λ i. refl) crossers, which-length (crossing plain T x y) N, count-small (crossing plain T x y) N)
 
-  pub needed-small : needed plain T N x y ≤ 2 * N
+  needed-small : needed plain T N x y ≤ 2 * N
   unfolding needed news
-  needed-small = omega (arith, once-short same (keep (isNew plain T N x y) (wanted plain T N x y)), keep-short (isNew plain T N x y) (wanted plain T N x y), wanted-small)
+  needed-small =
+      let made : List Node = keep (isNew plain T N x y) (wanted plain T N x y) in
+      omega (arith, once-short same made, keep-short (isNew plain T N x y) (wanted plain T N x y), wanted-small)
 
-pub free-small : (T : ℕ → Node) (N : ℕ) → freeCount T N ≤ N
+free-small : (T : ℕ → Node) (N : ℕ) → freeCount T N ≤ N
 unfolding freeCount
 free-small T N = count-small (λ i. isFreeNode (T i)) N
 

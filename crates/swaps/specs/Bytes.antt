@@ -1,36 +1,37 @@
 -- A fitting swap of a stored table, over its bytes: it passes every check again, under the exchanged order, and every root keeps its value.
-use Prim.Native.Nat.{ℕ, _+_, _-_, _*_, _%_, _≤_, _<_}
+use Prim.Native.Nat.{ℕ, _+_, _*_, _%_, _<_}
 use native.Mathlib.Omega.{arith}
 use mathlib.Core.Bool.{Bool, true, false, cond, not}
 use mathlib.Core.List.{List}
 use mathlib.Core.Logic.{inl, inr}
 use mathlib.Core.Path.{_≡_, refl, ap, sym, _∙_}
 use lib.ListN.{length, getD, take, drop, List·getD-eq-default}
-use Rattle.lists.specs.Says.{either-side}
+use Rattle.lists.specs.Says.{Says, either-side}
 use Rattle.lists.specs.Total.{count-agrees}
-use Rattle.lists.specs.Tabulate.{length-tabulate, getD-tabulate}
+use Rattle.lists.specs.Tabulate.{length-tabulate}
 use Rattle.orders.specs.Permutation.{Permutation, levelOf, inside-level}
 use Rattle.orders.specs.Exchange.{exchange, length-exchange, exchange-permutation}
 use Rattle.diagrams.specs.Layout.{recordSize, mostRecords, records, rootCount, variableAt, lowAt, highAt, isFree, isUsed, rootAt}
-use Rattle.diagrams.specs.Node.{Node, free, node, Constant, at, ref, look}
-use Rattle.diagrams.specs.Decode.{nodeAt, decode, eight, WellLaid, encode-decode}
+use Rattle.diagrams.specs.Node.{Node, free, node, Constant, at, ref, two-more, look}
+use Rattle.diagrams.specs.Decode.{Used, nodeAt, decode, eight, WellLaid, encode-decode}
 use Rattle.diagrams.specs.Store.{length-encode}
 use Rattle.diagrams.specs.Encode.{Small, AllSmall, decode-encode, encode-laid, take-record}
-use Rattle.diagrams.specs.Lookup.{rootsOf, lookup, length-roots, root-is}
+use Rattle.diagrams.specs.Lookup.{rootsOf, lookup, at-decode, node-of, length-roots, root-is}
 use Rattle.diagrams.specs.Bryant.{Among, Vertex}
 use Rattle.diagrams.specs.Levels.{free-node}
-use Rattle.diagrams.specs.Diagram.{Diagram}
-use Rattle.diagrams.specs.Reduced.{diagram-of, look-plain}
+use Rattle.diagrams.specs.Diagram.{Named, Diagram}
+use Rattle.diagrams.specs.Reduced.{diagram-of, look-ends}
 use Rattle.diagrams.specs.Value.{value, Value}
 use Rattle.checks.specs.Check.{used, checkOf}
-use Rattle.checks.specs.Usable.{Usable}
+use Rattle.check_names.specs.Names.{NamedByRoot, NamedByRecord}
+use Rattle.checks.specs.Usable.{Usable, by-root, root-by, by-record, record-by}
 use Rattle.checks.specs.Theorems.{accepts}
 use Rattle.checks.specs.declared.CheckAnswer.the-variants.{Accepted}
 use Rattle.diagrams.specs.Edition.{plain}
-use Rattle.swap_rules.specs.Record.{isUsedNode, isFreeNode, Behind, behind}
-use Rattle.swap_rules.specs.Swap.{xAt, yAt, crosses, dies, fits, filled, usedCount, swapped}
-use Rattle.swap_rules.specs.Stored.{plain-written, length-swapped}
-use Rattle.swap_rules.specs.Theorem.{Cofactors, swap-diagram, swap-bryant, swap-root, swap-reads, swap-else, swap-count, cofactors}
+use Rattle.swap_rules.specs.Record.{isUsedNode, isFreeNode, UsedOf, Behind, behind}
+use Rattle.swap_rules.specs.Swap.{xAt, yAt, crosses, dies, filled, usedCount, swapped}
+use Rattle.swap_rules.specs.Stored.{plain-written, Swappable, length-swapped}
+use Rattle.swap_rules.specs.Theorem.{Cofactors, swap-diagram, swap-bryant, swap-root, swap-reads, swap-else, swap-count, cofactors, freed-exactly}
 use Rattle.swaps.specs.Outcome.{neededIn, fitsIn, dyingIn, tableAfter}
 
 -- ---- as many records as before
@@ -42,27 +43,29 @@ length-decode t = length-tabulate (records t) (nodeAt t)
 module _ (t r : List ℕ) (x y : ℕ) where
   bytes-of : length (tableAfter t r x y) ≡ recordSize * records t
   unfolding tableAfter
-  bytes-of = length-encode (swapped plain (decode t) x y (rootsOf r)) ∙ ap (λ n. recordSize * n) (length-swapped plain (decode t) x y (rootsOf r) ∙ length-decode t)
+  bytes-of =
+      length-encode (swapped plain (decode t) x y (rootsOf r))
+      ∙ ap (λ n. recordSize * n) (length-swapped plain (decode t) x y (rootsOf r) ∙ length-decode t)
 
-  pub records-after : records (tableAfter t r x y) ≡ records t
+  records-after : records (tableAfter t r x y) ≡ records t
   records-after = omega (arith, bytes-of)
 
-  pub length-after : length t % recordSize ≡ 0 → length (tableAfter t r x y) ≡ length t
+  length-after : length t % recordSize ≡ 0 → length (tableAfter t r x y) ≡ length t
   length-after whole = omega (arith, bytes-of)
 
--- ---- the used records, counted in the bytes and in the records
+-- ---- the used and the free records, in the bytes and in the records
 
-used-at : (t : List ℕ) (i : ℕ) → i < records t → isUsed t i ≡ isUsedNode (at (decode t) i)
-unfolding decode nodeAt isFreeNode
-used-at t i b = go (isFree t i) ∙ ap isUsedNode (sym (getD-tabulate (records t) (nodeAt t) i free b))
+free-at : (t : List ℕ) (i : ℕ) → i < records t → isFree t i ≡ isFreeNode (at (decode t) i)
+unfolding nodeAt isFreeNode
+free-at t i b = go (isFree t i) ∙ ap isFreeNode (sym (at-decode t i b))
   where
-    go : (f : Bool) → not f ≡ isUsedNode (cond f free (node (variableAt t i) (lowAt t i) (highAt t i)))
+    go : (f : Bool) → f ≡ isFreeNode (cond f free (node (variableAt t i) (lowAt t i) (highAt t i)))
     go true = refl
     go false = refl
 
-pub used-is : (t : List ℕ) → used t ≡ usedCount (at (decode t)) (records t)
+used-is : (t : List ℕ) → used t ≡ usedCount (at (decode t)) (records t)
 unfolding usedCount
-used-is t = count-agrees (λ i. isUsedNode (at (decode t) i)) (isUsed t) (records t) (used-at t)
+used-is t = count-agrees (λ i. isUsedNode (at (decode t) i)) (isUsed t) (records t) (λ i b. ap not (free-at t i b))
 
 -- ---- a fitting swap of a table that is accepted
 
@@ -80,14 +83,14 @@ module _ (t r o : List ℕ) (k : ℕ) (usable : Usable t r o) (level : k + 1 < l
   abbrev t′ : List ℕ
   t′ = tableAfter t r x y
 
-  fit-decoded : fits plain (at (decode t)) (length (decode t)) x y ≡ true
-  fit-decoded = rw (length-decode t) fit
+  swappable : Swappable plain (decode t) o k
+  swappable = record { written = plain-written (decode t); order = usable .order; level = level; fit = rw (length-decode t) fit }
 
   before : Diagram Constant (lookup t) (Among (rootsOf r)) (levelOf o) (length o)
-  before = diagram-of (look-plain (at (decode t))) (usable .bryant)
+  before = diagram-of (look-ends (at (decode t))) (usable .bryant)
 
   again : Diagram Constant (look (at S)) (Among (rootsOf r)) (levelOf (exchange o k)) (length (exchange o k))
-  again = swap-diagram (decode t) (plain-written (decode t)) (rootsOf r) o k (usable .order) level fit-decoded before
+  again = swap-diagram swappable (rootsOf r) before
 
   exchanged : Permutation (exchange o k)
   exchanged = exchange-permutation o k (usable .order) level
@@ -102,25 +105,25 @@ module _ (t r o : List ℕ) (k : ℕ) (usable : Usable t r o) (level : k + 1 < l
 
   reference-small : (c : ℕ) → Vertex Constant (look (at S)) c → c < 65536
   reference-small c (inl b) = omega arith
-  reference-small c (inr u) = let m : Behind (at S) c (node (u .variable) (u .low) (u .high)) = behind (at S) c (u .is) in omega (arith, m .is, below-most (m .number) (m .holds))
+  reference-small c (inr u) =
+      let m : Behind (at S) c (node (u .variable) (u .low) (u .high)) = behind (at S) c (u .is) in
+      omega (arith, m .is, below-most (m .number) (m .holds))
 
   variable-small : (q : ℕ) {v l h : ℕ} → look (at S) q ≡ node v l h → v < 255
   variable-small q {v} e = omega (arith, inside-level (exchange o k) v exchanged (again .graph .indexed q e), length-exchange o k, usable .sizes .few-variables)
 
-  named : (i : ℕ) {v l h : ℕ} → at S i ≡ node v l h → look (at S) (ref i) ≡ node v l h
+  swapped-small : AllSmall S
   unfolding look
-  named i e = e
-
-  pub swapped-small : AllSmall S
   swapped-small i b = go (at S i) refl
     where
       go : (m : Node) → at S i ≡ m → Small m
       go free e = tt
-      go (node v l h) e = let f : look (at S) (ref i) ≡ node v l h = named i e in (variable-small (ref i) f, reference-small l (again .graph .closed (ref i) f false), reference-small h (again .graph .closed (ref i) f true))
+      go (node v l h) e =
+          (variable-small (ref i) e, reference-small l (again .graph .closed (ref i) e false), reference-small h (again .graph .closed (ref i) e true))
 
   -- ---- the table afterwards
 
-  pub decode-after : decode t′ ≡ S
+  decode-after : decode t′ ≡ S
   unfolding tableAfter
   decode-after = decode-encode S swapped-small
 
@@ -141,7 +144,7 @@ module _ (t r o : List ℕ) (k : ℕ) (usable : Usable t r o) (level : k + 1 < l
     };
     order = exchanged;
     laid = laid-after;
-    bryant = rw decode-after (swap-bryant (decode t) (plain-written (decode t)) (rootsOf r) o k (usable .order) level fit-decoded (usable .bryant));
+    bryant = rw decode-after (swap-bryant swappable (rootsOf r) (usable .bryant));
   }
     where
       same : length t′ ≡ length t
@@ -155,29 +158,53 @@ module _ (t r o : List ℕ) (k : ℕ) (usable : Usable t r o) (level : k + 1 < l
       → value (lookup t′) inputs (length o) (rootAt r position) ≡ value (lookup t) inputs (length o) (rootAt r position)
   swap-root-value inputs position b =
       let e : value (look (at S)) inputs (length o) (getD (rootsOf r) position 0) ≡ value (lookup t) inputs (length o) (getD (rootsOf r) position 0) =
-      swap-root (decode t) (plain-written (decode t)) (rootsOf r) o k (usable .order) level fit-decoded before inputs position (rw (length-roots r) b) in
+      swap-root swappable (rootsOf r) before inputs position (rw (length-roots r) b) in
       rw decode-after (rw (root-is r position b) at e)
 
   -- the same, of what a root reads as
-  pub swap-root-reads : (inputs : ℕ → Bool) (position : ℕ) → position < rootCount r → (v : Bool) → Value (lookup t) inputs (rootAt r position) v → Value (lookup t′) inputs (rootAt r position) v
+  pub swap-root-reads : (inputs : ℕ → Bool) (position : ℕ) → position < rootCount r → (v : Bool)
+      → Value (lookup t) inputs (rootAt r position) v → Value (lookup t′) inputs (rootAt r position) v
   swap-root-reads inputs position b =
       let e : (v : Bool) → Value (lookup t) inputs (getD (rootsOf r) position 0) v → Value (look (at S)) inputs (getD (rootsOf r) position 0) v =
-      swap-reads (decode t) (rootsOf r) o k (usable .order) level fit-decoded before inputs position (rw (length-roots r) b) in
+      swap-reads swappable (rootsOf r) before inputs position (rw (length-roots r) b) in
       rw decode-after (rw (root-is r position b) at e)
 
   -- the function of a crossing record, and those of its new children
   pub swap-cofactors : (q : ℕ) → crosses (lookup t) x y q ≡ true → Cofactors (lookup t) (lookup t′) (length o) x y q
-  swap-cofactors q c = rw decode-after (cofactors (decode t) (plain-written (decode t)) (rootsOf r) o k (usable .order) level fit-decoded before q c)
+  swap-cofactors q c = rw decode-after (cofactors swappable (rootsOf r) before q c)
+
+  -- step 3: a y record from before is free afterwards exactly where no root names it, and no used record of the table afterwards
+  pub swap-frees-exactly : (i : ℕ) → i < records t → variableAt t i ≡ y
+      → Says (isFree t′ i) ((NamedByRoot r (i + 2) → ⊥) × (NamedByRecord t′ (i + 2) → ⊥))
+  unfolding look
+  swap-frees-exactly i b is-y = record {
+    yes = λ f.
+        let p = freed .yes (sym free-is ∙ f) in
+        (λ n. p .0 (rw two-more at (by-root r (i + 2) n)), λ n. p .1 (rw (decode-after, two-more) at (by-record t′ (i + 2) n)));
+    no = λ p. free-is ∙ freed .no (λ n. p .0 (root-by r (i + 2) (rw two-more n)), λ n. p .1 (record-by t′ (i + 2) (rw (decode-after, two-more) n)));
+  }
+    where
+      used-y : Used t i
+      used-y e = omega (arith, usable .order .in-range (k + 1) level, usable .sizes .few-variables)
+
+      was-y : UsedOf y (lookup t (ref i))
+      was-y = record { low = lowAt t i; high = highAt t i; is = node-of t i b used-y ∙ ap (λ v. node v (lowAt t i) (highAt t i)) is-y }
+
+      freed : Says (isFreeNode (look (at S) (ref i))) ((Among (rootsOf r) (ref i) → ⊥) × (Named (look (at S)) (ref i) → ⊥))
+      freed = freed-exactly swappable (rootsOf r) before (ref i) was-y
+
+      free-is : isFree t′ i ≡ isFreeNode (at S i)
+      free-is = free-at t′ i (rw (records-after t r x y) b) ∙ ap (λ s. isFreeNode (at s i)) decode-after
 
   -- the used records are those before, plus new, less dying
   pub swap-used : used t′ + dyingIn t r x y ≡ used t + neededIn t x y
   swap-used =
       let e : usedCount (at S) (records t) + dyingIn t r x y ≡ usedCount (at (decode t)) (records t) + neededIn t x y =
-      rw (length-decode t) at (swap-count (decode t) (plain-written (decode t)) (rootsOf r) o k (usable .order) level fit-decoded) in
+      rw (length-decode t) at (swap-count swappable (rootsOf r)) in
       let u : used t′ ≡ usedCount (at S) (records t) = used-is t′ ∙ rw (decode-after, records-after t r x y) in
       rw (u, used-is t) e
 
-  -- "Nothing else changes.": a record that does not cross, that no new one goes to and that does not die keeps its eight bytes
+  -- a record that does not cross, that no new one goes to and that does not die keeps its eight bytes
   pub kept-bytes : ((j : ℕ) → getD t j 0 < 256) → (i : ℕ) → i < records t → crosses (lookup t) x y (ref i) ≡ false
       → filled plain (at (decode t)) (records t) x y i ≡ false → dies plain (at (decode t)) (records t) x y (rootsOf r) (ref i) ≡ false
       → take recordSize (drop (recordSize * i) t′) ≡ take recordSize (drop (recordSize * i) t)
@@ -185,5 +212,8 @@ module _ (t r o : List ℕ) (k : ℕ) (usable : Usable t r o) (level : k + 1 < l
   kept-bytes bytes i b c g d =
       let b₀ : i < length (decode t) = rw (length-decode t) b in
       let b₁ : i < length S = rw (length-swapped plain (decode t) x y (rootsOf r)) b₀ in
-      let e : at S i ≡ at (decode t) i = swap-else (decode t) (plain-written (decode t)) (rootsOf r) o k (usable .order) level fit-decoded i b₀ c (rw (length-decode t) g) (rw (length-decode t) d) in
-      take-record S i b₁ ∙ ap eight e ∙ sym (take-record (decode t) i b₀) ∙ ap (λ s. take recordSize (drop (recordSize * i) s)) (encode-decode t bytes (usable .laid))
+      let e : at S i ≡ at (decode t) i = swap-else swappable (rootsOf r) i b₀ c (rw (length-decode t) g) (rw (length-decode t) d) in
+      take-record S i b₁
+      ∙ ap eight e
+      ∙ sym (take-record (decode t) i b₀)
+      ∙ ap (λ s. take recordSize (drop (recordSize * i) s)) (encode-decode t bytes (usable .laid))

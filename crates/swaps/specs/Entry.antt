@@ -7,21 +7,24 @@ use mathlib.Core.Path.{_≡_, refl, ap, sym, _∙_}
 use lib.ListN.{length}
 use borrow.Author.Tests.{leb-true, leb-false, le-leb, lt-leb}
 use Rattle.lists.specs.Apart.{apart}
+use Rattle.lists.specs.Says.{Says}
 use Rattle.orders.specs.Exchange.{exchange}
-use Rattle.diagrams.specs.Layout.{rootCount, rootAt}
+use Rattle.diagrams.specs.Layout.{records, rootCount, rootAt, variableAt, isFree}
 use Rattle.diagrams.specs.Lookup.{lookup}
 use Rattle.diagrams.specs.Value.{value}
 use Rattle.checks.specs.Stages.{AllPass, also, both-rows, FailsFirst, stageAt, refusal, verdictOf, passed-only, clear-if, clear-only, refused-if, refused-only}
 use Rattle.checks.specs.Stages.{row-passes, place-passes}
-use Rattle.checks.specs.Check.{checkStages}
+use Rattle.check_names.specs.Names.{NamedByRoot, NamedByRecord}
+use Rattle.checks.specs.Check.{checkStages, used}
 use Rattle.checks.specs.Usable.{Usable, usable-if, usable-then, all-pass, passes-all}
 use Rattle.checks.specs.declared.Refusal.{Refusal}
 use Rattle.checks.specs.declared.Verdict.{Verdict}
 use Rattle.checks.specs.declared.Verdict.the-variants as verdict
-use Rattle.swap_rules.specs.Swap.{xAt, yAt, fits}
-use Rattle.swaps.specs.Outcome.{neededIn, freeIn, fitsIn, lack, wayOf, isClear, way-fits, way-clear, way-lacks, tableAfter}
+use Rattle.swap_rules.specs.Swap.{xAt, yAt, crosses, fits}
+use Rattle.swap_rules.specs.Theorem.{Cofactors}
+use Rattle.swaps.specs.Outcome.{neededIn, freeIn, fitsIn, dyingIn, lack, wayOf, isClear, way-fits, way-clear, way-lacks, tableAfter}
 use Rattle.swaps.specs.Outcome.{noLevel, swapStages, Swapped, swapAfter, swapJudged, swapOf, SwapOutcome}
-use Rattle.swaps.specs.Bytes.{swap-usable, swap-root-value}
+use Rattle.swaps.specs.Bytes.{swap-usable, swap-root-value, swap-cofactors, swap-used, swap-frees-exactly}
 use Rattle.swaps.specs.declared.Lack.{Lack}
 use Rattle.swaps.specs.declared.Way.{Way}
 use Rattle.swaps.specs.declared.Way.the-variants as way
@@ -132,6 +135,31 @@ module _ (t r o : List ℕ) (k : ℕ) where
     pub made-root-value : (inputs : ℕ → Bool) (position : ℕ) → position < rootCount r
         → value (lookup (swapOf t r o k .table)) inputs (length o) (rootAt r position) ≡ value (lookup t) inputs (length o) (rootAt r position)
     made-root-value inputs position b = let w = made-only made in rw made-is (swap-root-value t r o k (w .0 .0) (w .0 .1) fit inputs position b)
+
+    pub made-cofactors : (q : ℕ) → crosses (lookup t) (xAt o k) (yAt o k) q ≡ true
+        → Cofactors (lookup t) (lookup (swapOf t r o k .table)) (length o) (xAt o k) (yAt o k) q
+    made-cofactors q c = let w = made-only made in rw made-is (swap-cofactors t r o k (w .0 .0) (w .0 .1) fit q c)
+
+    -- step 3: a y record from before is free afterwards exactly where no root and, afterwards, no used record names it
+    pub made-frees : (i : ℕ) → i < records t → variableAt t i ≡ yAt o k
+        → Says (isFree (swapOf t r o k .table) i) ((NamedByRoot r (i + 2) → ⊥) × (NamedByRecord (swapOf t r o k .table) (i + 2) → ⊥))
+    made-frees i b y = let w = made-only made in rw made-is (swap-frees-exactly t r o k (w .0 .0) (w .0 .1) fit i b y)
+
+    pub made-used : used (swapOf t r o k .table) + dyingIn t r (xAt o k) (yAt o k) ≡ used t + Needed t o k
+    made-used = let w = made-only made in rw made-is (swap-used t r o k (w .0 .0) (w .0 .1) fit)
+
+  -- a swap that isn't made changes nothing
+  pub unmade-keeps : (swapOf t r o k .answer ≡ Made → ⊥) → (swapOf t r o k .table ≡ t) × (swapOf t r o k .order ≡ o)
+  unfolding swapOf
+  unmade-keeps n = go (verdictOf (swapStages t r o k)) n
+    where
+      stuck : (w : Way) → (swapAfter t r o k w .answer ≡ Made → ⊥) → (swapAfter t r o k w .table ≡ t) × (swapAfter t r o k w .order ≡ o)
+      stuck way.Clear m = absurd (m refl)
+      stuck (way.NoRoom l) m = (refl, refl)
+
+      go : (v : Verdict) → (swapJudged t r o k v .answer ≡ Made → ⊥) → (swapJudged t r o k v .table ≡ t) × (swapJudged t r o k v .order ≡ o)
+      go verdict.Clear m = stuck (wayOf t o k) m
+      go (verdict.Refused f) m = (refl, refl)
 
   -- one outcome for each input
   pub swap-one : {a b : SwapAnswer} {t₁ t₂ o₁ o₂ : List ℕ} → SwapOutcome t r o k a t₁ o₁ → SwapOutcome t r o k b t₂ o₂ → (a ≡ b) × (t₁ ≡ t₂) × (o₁ ≡ o₂)

@@ -3,9 +3,8 @@ use Prim.Native.Nat.{ℕ, _-_}
 use mathlib.Core.Bool.{Bool, true, false, cond}
 use mathlib.Core.List.{List, [], _∷_, _++_}
 use mathlib.Core.Path.{_≡_, refl, sym}
-use native.Mathlib.Omega.{arith}
 use lib.Dec.{leb}
-use lib.ListN.{length, take}
+use lib.ListN.{length}
 use Rattle.lists.specs.Apart.{apart}
 use Rattle.lists.specs.Says.{true-false}
 use Rattle.orders.specs.Exchange.{exchange}
@@ -18,7 +17,7 @@ use Rattle.checks.specs.Check.{checkStages}
 use Rattle.checks.specs.declared.Verdict.{Verdict}
 use Rattle.checks.specs.declared.Verdict.the-variants as verdict
 use Rattle.diagrams.specs.Edition.{plain}
-use Rattle.swap_rules.specs.Swap.{xAt, yAt, needed, freeCount, fits, dying, swapped}
+use Rattle.swap_rules.specs.Swap.{xAt, yAt, needed, freeCount, fits, dyingCount, swapped}
 use Rattle.swaps.specs.declared.Lack.{Lack}
 use Rattle.swaps.specs.declared.Way.{Way}
 use Rattle.swaps.specs.declared.Way.the-variants as way
@@ -41,7 +40,7 @@ fitsIn t x y = fits plain (at (decode t)) (records t) x y
 
 -- how many records become free: y records that neither the roots r nor a record names any more
 abbrev pub dyingIn : List ℕ → List ℕ → ℕ → ℕ → ℕ
-dyingIn t r x y = dying plain (at (decode t)) (records t) x y (rootsOf r)
+dyingIn t r x y = dyingCount plain (at (decode t)) (records t) x y (rootsOf r)
 
 -- ---- what stands in the way of a swap of levels k and k + 1 of the order o: nothing, or that there is no room
 

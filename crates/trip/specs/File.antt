@@ -1,17 +1,33 @@
--- What came of reading a file, and how much the buffers hold.
+-- The buffers of the files, and what came of reading a file and all of them.
 use Prim.Native.Nat.{ℕ, _+_, _*_, _≤_}
 use mathlib.Core.List.{List}
+use mathlib.Core.Path.{_≡_}
 use lib.ListN.{length}
 use Rattle.diagrams.specs.Layout.{recordSize, rootSize, mostRecords, mostRoots}
 use Rattle.orders.specs.Permutation.{ceiling}
 use Rattle.trip.specs.declared.File.{File}
 use Rattle.trip.specs.declared.File.the-variants.{Bytes, Unreadable}
+use Rattle.trip.specs.declared.Files.{Files}
+use Rattle.trip.specs.declared.Files.the-variants.{Read}
 
--- what was read fits into m bytes
-abbrev pub Within : File → ℕ → Type 0
-Within (Bytes n) m = n ≤ m
-Within Unreadable m = Unit {0}
+-- each buffer has one byte more than its file may have: a file over its limit fills it, and by its length alone is refusal 1
+pub record Buffers (t r o g : List ℕ) : Type 0 where
+  pub table : length t ≡ recordSize * mostRecords + 1
+  pub roots : length r ≡ rootSize * mostRoots + 1
+  pub order : length o ≡ ceiling + 1
+  pub target : length g ≡ ceiling + 1
 
--- what the buffers hold: at most one byte more than each file may have
-abbrev pub Held : List ℕ → List ℕ → List ℕ → Type 0
-Held t r o = (length t ≤ recordSize * mostRecords + 1) × (length r ≤ rootSize * mostRoots + 1) × (length o ≤ ceiling + 1)
+-- what was read of a file stands in its buffer
+abbrev pub Within : File → List ℕ → Type 0
+Within (Bytes n) buffer = n ≤ length buffer
+Within Unreadable buffer = Unit {0}
+
+-- so many bytes stand in each of the four
+pub record Filled (table roots order target : ℕ) (t r o g : List ℕ) : Type 0 where
+  pub table-in : table ≤ length t
+  pub roots-in : roots ≤ length r
+  pub order-in : order ≤ length o
+  pub target-in : target ≤ length g
+
+pub record AllWithin (f : Files) (t r o g : List ℕ) : Type 0 where
+  pub read : (a b c d : ℕ) → f ≡ Read a b c d → Filled a b c d t r o g

@@ -1,13 +1,12 @@
 // Reads a store from the files of the working folder, brings it to its target and prints what came of it. It writes to no file.
-ghost use lib.ListN.{length};
-ghost use Rattle.trip.specs.File.{Within, Held};
+ghost use Rattle.program.specs.Program.{Held};
+ghost use Rattle.trip.specs.File.{Buffers, Within, AllWithin};
 use diagrams::MOST_RECORDS;
 use diagrams::MOST_ROOTS;
 use diagrams::RECORD_SIZE;
 use diagrams::ROOT_SIZE;
 use libc::STDOUT_FILENO;
 use orders::Order;
-use slices::RunAnswer;
 
 // What came of reading a file: so many bytes, or that standard error was told why it can't be read.
 enum File {
@@ -17,7 +16,7 @@ enum File {
 
 // Reads until the buffer is full or the file ends.
 fn read_whole(fd: i32, path: &[u8], buffer: &mut [u8]) -> File
-    ensures { λ f. ⌜ Within f (length (now (buffer .exit))) ⌝ }
+    ensures { λ f. ⌜ Within f (now (buffer .exit)) ⌝ }
 {
     let mut done = 0;
     while done < buffer.len() {
@@ -37,7 +36,7 @@ fn read_whole(fd: i32, path: &[u8], buffer: &mut [u8]) -> File
 
 // A missing file counts as empty.
 fn load(path: &[u8], buffer: &mut [u8]) -> File
-    ensures { λ f. ⌜ Within f (length (now (buffer .exit))) ⌝ }
+    ensures { λ f. ⌜ Within f (now (buffer .exit)) ⌝ }
 {
     let fd = os::open_read(path);
     if fd < 0 {
@@ -52,22 +51,50 @@ fn load(path: &[u8], buffer: &mut [u8]) -> File
     file
 }
 
-// Prints an answer and its listing in one write.
-fn print(answer: RunAnswer, table: &[u8], roots: &[u8], order: &[u8])
-    requires { ⌜ Held (now table) (now roots) (now order) ⌝ }
+// How many bytes each file has, or that one of them can't be read.
+enum Files {
+    Read {
+        table: usize,
+        roots: usize,
+        order: usize,
+        target: usize,
+    },
+    Unreadable,
+}
+
+fn load_all(table: &mut [u8], roots: &mut [u8], order: &mut [u8], target: &mut [u8]) -> Files
+    requires { ⌜ Buffers (now table) (now roots) (now order) (now target) ⌝ }
+    ensures { λ f. ⌜ AllWithin f (now (table .exit)) (now (roots .exit)) (now (order .exit)) (now (target .exit)) ⌝ }
 {
-    let mut text = [0u8; listing::MOST_TEXT];
-    let n = listing::print(&mut text, answer, table, roots, order);
-    if !io::write_all(STDOUT_FILENO, &text[..n]) {
-        os::fail(b"standard output");
+    let File::Bytes(table_bytes) = load(b"trip.nod", table) else {
+        return Files::Unreadable;
+    };
+    let File::Bytes(root_bytes) = load(b"trip.rts", roots) else {
+        return Files::Unreadable;
+    };
+    let File::Bytes(order_bytes) = load(b"trip.ord", order) else {
+        return Files::Unreadable;
+    };
+    let File::Bytes(target_bytes) = load(b"trip.tgt", target) else {
+        return Files::Unreadable;
+    };
+    Files::Read {
+        table: table_bytes,
+        roots: root_bytes,
+        order: order_bytes,
+        target: target_bytes,
     }
 }
 
-fn run(table: &mut [u8], roots: &[u8], order: &mut [u8], target: &[u8])
+// Writes the text of the program at once.
+fn print(table: &mut [u8], roots: &[u8], order: &mut [u8], target: &[u8])
     requires { ⌜ Held (now table) (now roots) (now order) ⌝ }
 {
-    let answer = slices::run(table, roots, order, target, u32::MAX);
-    print(answer, table, roots, order);
+    let mut text = [0u8; program::MOST_TEXT];
+    let n = program::text(table, roots, order, target, &mut text);
+    if !io::write_all(STDOUT_FILENO, &text[..n]) {
+        os::fail(b"standard output");
+    }
 }
 
 // Each buffer has one byte more than its file may have, so that check 1 refuses a file over its limit.
@@ -76,22 +103,14 @@ fn main() {
     let mut roots = [0u8; ROOT_SIZE * MOST_ROOTS + 1];
     let mut order = [0u8; Order::CEILING + 1];
     let mut target = [0u8; Order::CEILING + 1];
-    let File::Bytes(table_bytes) = load(b"trip.nod", &mut table) else {
+    let Files::Read {
+        table: t,
+        roots: r,
+        order: n,
+        target: m,
+    } = load_all(&mut table, &mut roots, &mut order, &mut target)
+    else {
         return;
     };
-    let File::Bytes(root_bytes) = load(b"trip.rts", &mut roots) else {
-        return;
-    };
-    let File::Bytes(n) = load(b"trip.ord", &mut order) else {
-        return;
-    };
-    let File::Bytes(target_bytes) = load(b"trip.tgt", &mut target) else {
-        return;
-    };
-    run(
-        &mut table[..table_bytes],
-        &roots[..root_bytes],
-        &mut order[..n],
-        &target[..target_bytes],
-    );
+    print(&mut table[..t], &roots[..r], &mut order[..n], &target[..m]);
 }

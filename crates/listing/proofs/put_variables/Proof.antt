@@ -1,28 +1,15 @@
 use Prim.Native.Nat.{_-_}
-use native.Mathlib.Omega.{arith}
 use borrow.Author.Needs.{needs}
-use Rattle.listing.specs.Put.{Puts, puts-begin, puts-room, puts-go, puts-end}
+use Rattle.texts.specs.Put.{Turns, turns}
 use Rattle.listing.specs.Text.{variableText}
 use Rattle.listing.proofs.put_variables.Statement.{statement}
 use Rattle.listing.proofs.put_variables.Tie as tie
 
 abbrev Inv-loop : tie.InvT-loop
-Inv-loop out₀ at order n next₀ k₀ t7 out next k = Puts (variableText order) n out₀ at k out next
+Inv-loop out₀ at order n next₀ k₀ out next k = Turns (variableText order) n out₀ at k out next
 
 abbrev μ-loop : tie.MeasureT-loop
-μ-loop out₀ at order n next₀ k₀ t7 out next k = n - k
-
-loop-holds : tie.Need-loop-holds Inv-loop μ-loop
-loop-holds c = puts-begin
-
-put-named-requires : tie.Need-put-named-requires Inv-loop μ-loop
-put-named-requires c κs = rw (c .wide .ensures .0) (puts-room (c .before .before .before .before .before .loop .inv) (omega arith) (c .before .before .before .before .before .before .before .before .pre))
-
-loop-again : tie.Need-loop-again Inv-loop μ-loop
-loop-again c = puts-go (c .before .before .before .before .before .before .before .before .loop .inv) (omega arith) (rw (c .before .before .before .wide .ensures .0) at (c .before .before .put-named .ensures))
-
-returns : tie.Need-returns Inv-loop μ-loop
-returns c = puts-end (c .before .loop .inv) (omega arith)
+μ-loop out₀ at order n next₀ k₀ out next k = n - k
 
 pub put-variables-spec : {M : Type 1} → statement M
 put-variables-spec =
@@ -30,13 +17,10 @@ put-variables-spec =
     (tie.spec
     Inv-loop
     μ-loop
-    loop-holds
+    (λ c. search turns)
+    (λ c κs. (search needs, search turns))
     (λ c. search needs)
     (λ c. search needs)
-    (λ c κs. search needs)
-    put-named-requires
+    (λ c. search turns)
     (λ c. search needs)
-    (λ c. search needs)
-    loop-again
-    (λ c. search needs)
-    returns)
+    (λ c. search turns))

@@ -9,7 +9,6 @@ child-spec =
     (λ c κs. search taking)
     (λ c. search taking)
     (λ c κs. search taking)
-    (λ c. search taking)
     (λ c κs. search taking)
     (λ c. search taking)
     (λ c κs. search taking)

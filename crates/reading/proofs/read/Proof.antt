@@ -1,22 +1,22 @@
 use borrow.Author.Needs.{needs}
-use Rattle.reading.specs.Read.{readStages}
 use Rattle.reading.proofs.Laws.{reading}
 use Rattle.reading.proofs.read.Statement.{statement}
 use Rattle.reading.proofs.read.Tie as tie
 
 pub read-spec : {M : Type 1} → statement M
-unfolding readStages
 read-spec =
     tie.close
     (tie.spec
     (λ c κs. search needs)
     (λ c. search needs)
-    (λ c. search reading depth 12)
+    (λ c. search reading)
     (λ c. search needs)
-    (λ c. search reading depth 12)
     (λ c κs. search needs)
-    (λ c. search reading depth 12)
+    (λ c. search reading)
+    (λ c κs. search needs)
+    (λ c. search reading)
     (λ c κs. search needs)
     (λ c κs. search needs)
     (λ c κs. search needs)
-    (λ c. search reading depth 12))
+    (λ c. search needs)
+    (λ c. search reading))

@@ -3,7 +3,7 @@ use Rattle.reading.proofs.show.Statement.{statement}
 use Rattle.reading.proofs.show.Tie as tie
 
 returns : tie.Need-returns
-returns c = record { the-bytes = rw (c .before .shown-part .ensures .0); the-place = rw (c .before .shown-part .ensures .0) }
+returns c = record { the-bytes = rw (c .before .shown-part .ensures .0); the-pointer = rw (c .before .shown-part .ensures .0) }
 
 pub show-spec : {M : Type 1} → statement M
 show-spec = tie.close (tie.spec (λ c κs. search needs) (λ c. search needs) (λ c. search needs) (λ c. search needs) returns)

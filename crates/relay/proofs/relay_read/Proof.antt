@@ -1,4 +1,3 @@
-use native.Mathlib.Omega.{arith}
 use borrow.Author.Needs.{needs}
 use Rattle.reading.specs.Read.{numbers}
 use Rattle.relay.proofs.Laws.{tells, read-place-fits}
@@ -15,10 +14,7 @@ relay-read-spec =
     (λ c. search needs)
     (λ c κs. search needs)
     (λ c. search needs)
-    (λ c. search needs)
-    (λ c. record { fits = read-place-fits _ _ _ _ _ _ (c .before .before .before .before .before .read .ensures) (c .before .before .before .refusal .given .1) (omega arith) })
-    (λ c. search needs)
-    (λ c κs. search needs)
+    (λ c κs. search (read-place-fits, needs))
     (λ c. search needs)
     (λ c. search (tells numbers))
     (λ c. search needs)

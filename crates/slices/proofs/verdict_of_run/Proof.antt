@@ -17,5 +17,8 @@ verdict-of-run-spec =
     (λ c. search refusing depth 12)
     (λ c κs. search needs)
     (λ c. search refusing depth 12)
-    (λ c κs. (sizes-right _ _ _ _ (c .before .before .before .before .before .bad-run-sizes .ensures) (c .before .before .before .before .if1 .left), passed-all _ _ (c .before .before .before .first-bad-place .ensures) (omega arith)))
+    (λ c κs.
+    let d = c .before .before .before in
+    let sizes = sizes-right _ _ _ _ (d .before .before .bad-run-sizes .ensures) (d .before .if1 .left) in
+    (sizes, passed-all _ _ (d .first-bad-place .ensures) (omega arith)))
     (λ c. search refusing depth 12))

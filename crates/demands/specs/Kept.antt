@@ -1,0 +1,84 @@
+-- Demand 2: exactly Bryant's diagrams are accepted. A swap that is made gives an accepted table under the exchanged order, keeps every root's
+-- reference and, for every combination of inputs, its value, and frees exactly what nothing names any more. What Read answers is the same before and
+-- after a swap, and before and after a run.
+use Prim.Native.Nat.{ℕ, _+_, _<_}
+use mathlib.Core.Bool.{Bool, true}
+use mathlib.Core.List.{List}
+use mathlib.Core.Path.{_≡_, refl, ap, sym, _∙_}
+use lib.ListN.{length}
+use Rattle.diagrams.specs.Layout.{records, rootCount, rootAt, variableAt, isFree}
+use Rattle.diagrams.specs.Lookup.{lookup}
+use Rattle.diagrams.specs.Value.{value}
+use Rattle.orders.specs.Exchange.{exchange}
+use Rattle.plans.specs.BringUp.{bringUp, bring-up-lawful}
+use Rattle.checks.specs.Check.{used, checkOf}
+use Rattle.checks.specs.Usable.{Usable}
+use Rattle.checks.specs.Theorems as check
+use Rattle.checks.specs.declared.CheckAnswer.the-variants as checked
+use Rattle.check_names.specs.Names.{NamedByRoot, NamedByRecord}
+use Rattle.lists.specs.Says.{Says}
+use Rattle.reading.specs.Read.{readOf}
+use Rattle.swap_rules.specs.Swap.{xAt, yAt, crosses}
+use Rattle.swap_rules.specs.Theorem.{Cofactors}
+use Rattle.swaps.specs.Outcome.{neededIn, dyingIn, swapOf}
+use Rattle.swaps.specs.Entry as swap
+use Rattle.swaps.specs.declared.SwapAnswer.the-variants.{Made}
+use Rattle.slices.specs.OneSwap.{plainSwap}
+use Rattle.slices.specs.Run.{runOf}
+use Rattle.demands.specs.Exactly.{Exactly}
+use Rattle.demands.specs.SameRead as same
+
+module _ (t r o : List ℕ) where
+  -- accepted, with c used records, exactly for a table that can be used and has so many. `Usable`: right sizes, an order that is a permutation, zeros
+  -- where nothing is told, and a diagram in Bryant's sense
+  pub accepted : (c : ℕ) → Exactly (checkOf t r o ≡ checked.Accepted c) (Usable t r o × (c ≡ used t))
+  accepted c = record { where-ever = λ w. check.accepts t r o (w .0) ∙ ap checked.Accepted (sym (w .1)); only = check.accepts-only t r o c }
+
+  -- ---- a swap that is made
+
+  module _ (k : ℕ) (made : swapOf t r o k .answer ≡ Made) where
+    abbrev t′ : List ℕ
+    t′ = swapOf t r o k .table
+
+    abbrev x : ℕ
+    x = xAt o k
+
+    abbrev y : ℕ
+    y = yAt o k
+
+    -- the two order bytes are exchanged
+    pub order-exchanged : swapOf t r o k .order ≡ exchange o k
+    order-exchanged = ap (λ s. s .order) (swap.made-is t r o k made)
+
+    -- the table is accepted again, under the exchanged order
+    pub accepted-again : checkOf t′ r (swapOf t r o k .order) ≡ checked.Accepted (used t′)
+    accepted-again = check.accepts t′ r (swapOf t r o k .order) (swap.made-usable t r o k made)
+
+    -- every root (the roots are lent for reading only) keeps its value for every combination of inputs
+    pub values-kept : (inputs : ℕ → Bool) (position : ℕ) → position < rootCount r
+        → value (lookup t′) inputs (length o) (rootAt r position) ≡ value (lookup t) inputs (length o) (rootAt r position)
+    values-kept = swap.made-root-value t r o k made
+
+    -- a crossing record keeps its function, and its children afterwards are its cofactors by y
+    pub cofactors : (q : ℕ) → crosses (lookup t) x y q ≡ true → Cofactors (lookup t) (lookup t′) (length o) x y q
+    cofactors = swap.made-cofactors t r o k made
+
+    -- a y record from before is free afterwards exactly where no root and, afterwards, no used record names it
+    pub freed-exactly : (i : ℕ) → i < records t → variableAt t i ≡ y
+        → Says (isFree t′ i) ((NamedByRoot r (i + 2) → ⊥) × (NamedByRecord t′ (i + 2) → ⊥))
+    freed-exactly = swap.made-frees t r o k made
+
+    -- used records: those before, plus new, less dying
+    pub used-after : used t′ + dyingIn t r x y ≡ used t + neededIn t x y
+    used-after = swap.made-used t r o k made
+
+  -- ---- Read, before and after
+
+  -- any swap, made or not, of any bytes
+  pub swap-reads : (k position : ℕ) (inputs : List ℕ) → readOf (swapOf t r o k .table) r (swapOf t r o k .order) position inputs ≡ readOf t r o position inputs
+  swap-reads k position inputs = same.swap-reads t r o k position inputs
+
+  -- any run, by Bring Up, of any bytes
+  pub run-reads : (g : List ℕ) (budget position : ℕ) (inputs : List ℕ)
+      → readOf (runOf plainSwap bringUp t r o g budget .table) r (runOf plainSwap bringUp t r o g budget .order) position inputs ≡ readOf t r o position inputs
+  run-reads g budget position inputs = same.run-reads bringUp bring-up-lawful t r o g budget position inputs

@@ -1,0 +1,5 @@
+pub mod Exactly
+pub mod Answered
+pub mod SameRead
+pub mod Kept
+pub mod Sliced

@@ -1,0 +1,5 @@
+pub mod Text
+pub mod Program
+pub mod Size
+pub mod Limits
+pub mod Sheet

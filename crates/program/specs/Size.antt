@@ -1,0 +1,49 @@
+-- The text fits into the list that is lent for it.
+use Prim.Native.Nat.{ℕ, _≤_, zero-le}
+use mathlib.Core.List.{List}
+use mathlib.Core.Path.{_≡_}
+use native.Mathlib.Omega.{arith}
+use lib.Dec.{lit≤}
+use lib.ListN.{length}
+use Rattle.swaps.specs.declared.Lack.{Lack}
+use Rattle.slices.specs.declared.RunAnswer.{RunAnswer}
+use Rattle.slices.specs.declared.RunAnswer.the-variants.{Done, NoRoom, Paused, Refused}
+use Rattle.texts.specs.Text.{bytes}
+use Rattle.texts.specs.Put.{Space}
+use Rattle.texts.specs.Short.{Short, short, both-short, shorter, either-short, word-short, numbered-any}
+use Rattle.listing.specs.Text.{listing}
+use Rattle.listing.specs.Size.{Bytes, listing-short}
+use Rattle.program.specs.Text.{swapsText, lackText, answerText, isRefused, storeText, printed}
+use Rattle.program.specs.Program.{mostText, Held}
+
+-- ---- the first line, without its end: at most 146 bytes
+
+swaps-short : (word : List ℕ) (s l : ℕ) → Short word 14 → Short (swapsText word s l) 62
+unfolding swapsText
+swaps-short word s l h = short (omega (arith, both-short (numbered-any word s) (numbered-any (bytes " left ") l) .most, h .most))
+
+lack-short : (l : Lack) → Short (lackText l) 84
+unfolding lackText
+lack-short l = both-short (both-short (numbered-any (bytes " level ") _) (numbered-any (bytes " needed ") _)) (numbered-any (bytes " free ") _)
+
+answer-short : (a : RunAnswer) → Short (answerText a) 146
+unfolding answerText
+answer-short (Done s l) = shorter 146 (swaps-short (bytes "done swaps ") s l (short (lit≤ tt))) tt
+answer-short (NoRoom s l lack) = both-short (swaps-short (bytes "no room swaps ") s l (short (lit≤ tt))) (lack-short lack)
+answer-short (Paused s l) = shorter 146 (swaps-short (bytes "paused swaps ") s l (short (lit≤ tt))) tt
+answer-short (Refused w) = shorter 146 (both-short (numbered-any (bytes "refused ") _) (numbered-any (bytes " place ") _)) tt
+
+-- ---- the whole text
+
+store-short : (a : RunAnswer) (t r o : List ℕ) (m : ℕ) → Short (listing t r o) m → Short (storeText a t r o) m
+unfolding storeText
+store-short a t r o m h = either-short (isRefused a) (short zero-le) h
+
+-- t and o are what a run left in the buffers, as long as they were before
+pub text-space : (a : RunAnswer) (t r o : List ℕ) {t₀ o₀ out : List ℕ} → Held t₀ r o₀ → mostText ≤ length out → length t ≡ length t₀ → length o ≡ length o₀
+    → Bytes t → Bytes r → Bytes o → Space out 0 (printed a t r o)
+unfolding printed
+text-space a t r o h m p q bt br bo =
+    let store = store-short a t r o _ (listing-short t r o bt br bo (omega (arith, h .table))) in
+    let whole = both-short (both-short (answer-short a) (word-short (bytes "\n"))) store in
+    record { fits = omega (arith, whole .most, h .table, h .roots, h .order) }

@@ -1,0 +1,171 @@
+/* The numbers that relay.h names, held to what the library does: a call provokes each refusal and each answer, and each limit is met and passed
+ * by one. */
+
+#include <stddef.h>
+#include <stdint.h>
+#include <stdio.h>
+#include <string.h>
+
+#include "relay.h"
+
+static int failures;
+
+static void expect(const char *name, uint32_t found, uint32_t named)
+{
+    if (found != named) {
+        printf("constants: %s: the library says %lu, relay.h %lu\n", name, (unsigned long)found, (unsigned long)named);
+        failures++;
+    }
+}
+
+/* One record: variable, low and high reference. */
+static void put(uint8_t *table, size_t i, uint8_t variable, uint8_t low, uint8_t high)
+{
+    uint8_t *record = table + i * RELAY_RECORD_SIZE;
+    memset(record, 0, RELAY_RECORD_SIZE);
+    record[0] = variable;
+    record[2] = low;
+    record[4] = high;
+}
+
+static uint8_t table[(RELAY_MOST_RECORDS + 1) * RELAY_RECORD_SIZE];
+static uint8_t roots[(RELAY_MOST_ROOTS + 1) * RELAY_ROOT_SIZE];
+static uint8_t order[RELAY_MOST_VARIABLES + 1];
+static uint8_t target[RELAY_MOST_VARIABLES + 1];
+static uint32_t answer[RELAY_MOST_NUMBERS];
+
+/* The calls, of so many records and roots, with two variables. */
+static uint32_t check(size_t records, size_t root_count)
+{
+    relay_check(table, records * RELAY_RECORD_SIZE, roots, root_count * RELAY_ROOT_SIZE, order, 2, answer, RELAY_CHECK_NUMBERS);
+    return answer[0];
+}
+
+static uint32_t run(size_t records, size_t root_count, uint32_t budget)
+{
+    relay_run(table, records * RELAY_RECORD_SIZE, roots, root_count * RELAY_ROOT_SIZE, order, 2, target, 2, budget, answer, RELAY_RUN_NUMBERS);
+    return answer[0];
+}
+
+/* Case A: record 0 is 1 (0,1), record 1 is 0 (0, record 0), record 2 is free; the root names record 1; from order 0 1 to 1 0. */
+static void case_a(void)
+{
+    memset(roots, 0, sizeof roots);
+    put(table, 0, 1, RELAY_FALSE, RELAY_TRUE);
+    put(table, 1, 0, RELAY_FALSE, RELAY_FIRST_RECORD);
+    put(table, 2, RELAY_FREE, 0, 0);
+    roots[0] = RELAY_FIRST_RECORD + 1;
+    order[0] = target[1] = 0;
+    order[1] = target[0] = 1;
+}
+
+static void answers(void)
+{
+    const uint8_t inputs[2] = {1, 1};
+
+    case_a();
+    expect("RELAY_ACCEPTED", check(3, 1), RELAY_ACCEPTED);
+    expect("RELAY_CHECK_NUMBERS",
+           (uint32_t)relay_check(table, 24, roots, 2, order, 2, answer, RELAY_CHECK_NUMBERS), RELAY_CHECK_NUMBERS);
+    expect("a shorter list for Check", (uint32_t)relay_check(table, 24, roots, 2, order, 2, answer, RELAY_CHECK_NUMBERS - 1), 0);
+    expect("RELAY_READ_NUMBERS",
+           (uint32_t)relay_read(table, 24, roots, 2, order, 2, 0, inputs, 2, answer, RELAY_READ_NUMBERS), RELAY_READ_NUMBERS);
+    expect("RELAY_VALUE", answer[0], RELAY_VALUE);
+    expect("the value of case A", answer[1], 1);
+    expect("a shorter list for Read", (uint32_t)relay_read(table, 24, roots, 2, order, 2, 0, inputs, 2, answer, RELAY_READ_NUMBERS - 1), 0);
+    expect("RELAY_SHOW_NUMBERS", (uint32_t)relay_show(table, 24, roots, 2, order, 2, 0, answer, RELAY_SHOW_NUMBERS), RELAY_SHOW_NUMBERS);
+    expect("the offset of record 1", answer[0], RELAY_RECORD_SIZE);
+    expect("RELAY_RECORD_SIZE", answer[1], RELAY_RECORD_SIZE);
+    expect("a shorter list for Show", (uint32_t)relay_show(table, 24, roots, 2, order, 2, 0, answer, RELAY_SHOW_NUMBERS - 1), 0);
+
+    expect("RELAY_PAUSED", run(3, 1, 0), RELAY_PAUSED);
+    expect("RELAY_NO_ROOM of Run",
+           (uint32_t)relay_run(table, 16, roots, 2, order, 2, target, 2, 1, answer, RELAY_RUN_NUMBERS), RELAY_RUN_NUMBERS);
+    expect("RELAY_NO_ROOM of Run", answer[0], RELAY_NO_ROOM);
+    expect("a shorter list for Run", (uint32_t)relay_run(table, 24, roots, 2, order, 2, target, 2, 1, answer, RELAY_RUN_NUMBERS - 1), 0);
+    expect("RELAY_SWAP_NUMBERS", (uint32_t)relay_swap(table, 16, roots, 2, order, 2, 0, answer, RELAY_SWAP_NUMBERS), RELAY_SWAP_NUMBERS);
+    expect("RELAY_NO_ROOM of Swap", answer[0], RELAY_NO_ROOM);
+    expect("a shorter list for Swap", (uint32_t)relay_swap(table, 24, roots, 2, order, 2, 0, answer, RELAY_SWAP_NUMBERS - 1), 0);
+    relay_swap(table, 24, roots, 2, order, 2, 0, answer, RELAY_SWAP_NUMBERS);
+    expect("RELAY_MADE", answer[0], RELAY_MADE);
+    expect("RELAY_DONE", run(3, 1, 0), RELAY_DONE);
+    expect("RELAY_FREE", table[0], RELAY_FREE);
+    expect("RELAY_MOST_NUMBERS", RELAY_MOST_NUMBERS, RELAY_RUN_NUMBERS);
+}
+
+static void refusals(void)
+{
+    const uint8_t inputs[2] = {1, 1};
+
+    case_a();
+    relay_check(table, 24, roots, 2, order, 0, answer, RELAY_CHECK_NUMBERS);
+    expect("RELAY_REFUSED_SIZES", answer[0], RELAY_REFUSED_SIZES);
+    order[0] = 1;
+    expect("RELAY_REFUSED_ORDER", check(3, 1), RELAY_REFUSED_ORDER);
+    case_a();
+    target[0] = 0;
+    expect("RELAY_REFUSED_TARGET", run(3, 1, 1), RELAY_REFUSED_TARGET);
+    case_a();
+    table[1] = 1;
+    expect("RELAY_REFUSED_MALFORMED", check(3, 1), RELAY_REFUSED_MALFORMED);
+    case_a();
+    put(table, 0, 1, RELAY_FALSE, RELAY_FIRST_RECORD + 1);
+    expect("RELAY_REFUSED_LEVELS", check(3, 1), RELAY_REFUSED_LEVELS);
+    case_a();
+    put(table, 0, 1, RELAY_TRUE, RELAY_TRUE);
+    expect("RELAY_REFUSED_EQUAL", check(3, 1), RELAY_REFUSED_EQUAL);
+    case_a();
+    put(table, 2, 1, RELAY_FALSE, RELAY_TRUE);
+    expect("RELAY_REFUSED_REPEAT", check(3, 1), RELAY_REFUSED_REPEAT);
+    case_a();
+    roots[0] = RELAY_FIRST_RECORD + 3;
+    expect("RELAY_REFUSED_ROOT", check(3, 1), RELAY_REFUSED_ROOT);
+    case_a();
+    expect("RELAY_REFUSED_UNNAMED", check(3, 0), RELAY_REFUSED_UNNAMED);
+    relay_read(table, 24, roots, 2, order, 2, 1, inputs, 2, answer, RELAY_READ_NUMBERS);
+    expect("RELAY_REFUSED_POSITION", answer[0], RELAY_REFUSED_POSITION);
+    relay_read(table, 24, roots, 2, order, 2, 0, inputs, 1, answer, RELAY_READ_NUMBERS);
+    expect("RELAY_REFUSED_INPUTS", answer[0], RELAY_REFUSED_INPUTS);
+    relay_swap(table, 24, roots, 2, order, 2, 1, answer, RELAY_SWAP_NUMBERS);
+    expect("RELAY_REFUSED_LEVEL", answer[0], RELAY_REFUSED_LEVEL);
+}
+
+/* Each limit is taken, and one more is refusal 1. */
+static void limits(void)
+{
+    size_t i;
+
+    case_a();
+    for (i = 0; i <= RELAY_MOST_RECORDS; i++) {
+        put(table, i, RELAY_FREE, 0, 0);
+    }
+    memset(roots, 0, sizeof roots);
+    expect("RELAY_MOST_RECORDS", check(RELAY_MOST_RECORDS, 0), RELAY_ACCEPTED);
+    expect("RELAY_MOST_RECORDS and one", check(RELAY_MOST_RECORDS + 1, 0), RELAY_REFUSED_SIZES);
+    expect("RELAY_MOST_ROOTS", check(0, RELAY_MOST_ROOTS), RELAY_ACCEPTED);
+    expect("RELAY_MOST_ROOTS and one", check(0, RELAY_MOST_ROOTS + 1), RELAY_REFUSED_SIZES);
+    for (i = 0; i <= RELAY_MOST_VARIABLES; i++) {
+        order[i] = (uint8_t)i;
+    }
+    relay_check(table, 0, roots, 0, order, RELAY_MOST_VARIABLES, answer, RELAY_CHECK_NUMBERS);
+    expect("RELAY_MOST_VARIABLES", answer[0], RELAY_ACCEPTED);
+    relay_check(table, 0, roots, 0, order, RELAY_MOST_VARIABLES + 1, answer, RELAY_CHECK_NUMBERS);
+    expect("RELAY_MOST_VARIABLES and one", answer[0], RELAY_REFUSED_SIZES);
+    roots[0] = RELAY_TRUE;
+    roots[RELAY_ROOT_SIZE] = RELAY_FALSE;
+    case_a();
+    roots[0] = RELAY_TRUE;
+    relay_read(table, 0, roots, RELAY_ROOT_SIZE, order, 2, 0, order, 2, answer, RELAY_READ_NUMBERS);
+    expect("RELAY_TRUE", answer[1], 1);
+    roots[0] = RELAY_FALSE;
+    relay_read(table, 0, roots, RELAY_ROOT_SIZE, order, 2, 0, order, 2, answer, RELAY_READ_NUMBERS);
+    expect("RELAY_FALSE", answer[1], 0);
+}
+
+int main(void)
+{
+    answers();
+    refusals();
+    limits();
+    return failures != 0;
+}
