@@ -14,7 +14,6 @@ use Rattle.lists.specs.Count.{count}
 use Rattle.lists.specs.Entries.{length-entries, entry-at, entry-below}
 use Rattle.lists.specs.First.{first, any, first-agrees}
 use Rattle.lists.specs.Says.{either-side}
-use Rattle.lists.specs.Tabulate.{length-tabulate, getD-tabulate}
 use Rattle.lists.specs.Truth.{by}
 use Rattle.lists.specs.Ranks.{which-finds, which-misses}
 use Rattle.lists.specs.Which.{which, which-length, which-agrees}
@@ -25,7 +24,7 @@ use Rattle.diagrams.specs.Lookup.{lookup, at-decode}
 use Rattle.swap_rules.specs.Record.{lowOf, highOf, isOf, isFreeNode, same}
 use Rattle.swap_rules.specs.Swap.{crosses, stands, isNew, slots, freeCount}
 use Rattle.swap_records.specs.Kinds.{standsAt}
-use Rattle.swap_records.specs.Pairs.{PairRoom, pairAt, pairsOf, putAt, put-next}
+use Rattle.swap_records.specs.Pairs.{PairRoom, pairsOf, putAt, length-pairs, pairs-at, put-next}
 use Rattle.swap_reckoning.specs.Asked.{standsIn, noted, settledIn}
 use Rattle.swap_reckoning.specs.Searching.{hits, matchesAt, newAt, slotAt, News, notePair, settledAt}
 
@@ -35,17 +34,11 @@ module _ (x : ℕ) (p : News) where
   abbrev pub newsOf : List Node
   newsOf = pairsOf x (p .list) (p .count)
 
-  pub length-news : length newsOf ≡ p .count
-  unfolding pairsOf
-  length-news = length-tabulate (p .count) (pairAt x (p .list))
-
-  pub news-at : (j : ℕ) → j < p .count → getD newsOf j free ≡ pairAt x (p .list) j
-  unfolding pairsOf
-  news-at j h = getD-tabulate (p .count) (pairAt x (p .list)) j free h
-
   new-first : (a b : ℕ) → placeOf (same (node x a b)) free newsOf ≡ first (newAt (p .list) a b) (p .count)
   unfolding newAt same
-  new-first a b = rw length-news (first-agrees _ (newAt (p .list) a b) (p .count) (λ j h. ap (same (node x a b)) (news-at j h) ∙ rw (eq-eqb x x refl)))
+  new-first a b =
+      rw (length-pairs x (p .list) (p .count))
+      (first-agrees _ (newAt (p .list) a b) (p .count) (λ j h. ap (same (node x a b)) (pairs-at x (p .list) (p .count) j h) ∙ rw (eq-eqb x x refl)))
 
 -- ---- the free records: the slots
 
@@ -153,7 +146,7 @@ module _ (t : List ℕ) (x y : ℕ) where
         longer = newsOf x p ++ (node x a b ∷ [])
 
         new-any : any (λ j. same (node x a b) (getD (newsOf x p) j free)) (length (newsOf x p)) ≡ any (newAt (p .list) a b) (p .count)
-        new-any = ap₂ ltb (new-first x p a b) (length-news x p)
+        new-any = ap₂ ltb (new-first x p a b) (length-pairs x (p .list) (p .count))
 
         go : (u v w : Bool) → newsOf x (cond u p (cond v p (cond w p (record { list = putAt (p .list) (p .count) a b; count = p .count + 1 }))))
             ≡ cond (not u && not v) (cond w (newsOf x p) longer) (newsOf x p)

@@ -1,6 +1,6 @@
 -- The reckoning of a swap: its lists hold what the definition speaks of.
 use Prim.Native.Nat.{ℕ, _+_, _*_, _≤_, _<_}
-use mathlib.Core.Bool.{true, false}
+use mathlib.Core.Bool.{false}
 use mathlib.Core.List.{List}
 use mathlib.Core.Path.{_≡_, refl, ap, ap₂, sym, _∙_}
 use native.Mathlib.Nat.{not-suc-le-zero}
@@ -9,19 +9,20 @@ use lib.ListN.{length, getD}
 use Rattle.lists.specs.Entries.{length-entries, entries-few, entry-at}
 use Rattle.lists.specs.Says.{either-side}
 use Rattle.lists.specs.Tabulate.{tabulate}
+use Rattle.diagrams.specs.Edition.{plain}
 use Rattle.diagrams.specs.Layout.{mostRecords, records, isFree, InTable}
-use Rattle.diagrams.specs.Node.{Node, node, ref}
-use Rattle.diagrams.specs.Lookup.{lookup}
-use Rattle.swap_rules.specs.Swap.{asked, f00, f01, f10, f11}
+use Rattle.diagrams.specs.Node.{Node, node, at, ref}
+use Rattle.diagrams.specs.Decode.{decode}
+use Rattle.swap_rules.specs.Swap.{asked, needed, freeCount}
 use Rattle.swap_records.specs.Grands.{Grands}
 use Rattle.swap_records.specs.Listed.{RoomFor, CrossingListed, StandingListed, FreeListed, inside-of, in-use, entry-inside, entry-used}
-use Rattle.swap_records.specs.Pairs.{PairRoom, pairAt, pairsOf, putAt, length-put, put-here, put-other}
+use Rattle.swap_records.specs.Pairs.{PairRoom, pairAt, pairsOf, putAt, length-pairs, length-put, put-here, put-other}
 use Rattle.swap_records.specs.declared.Grandchildren.{Grandchildren}
 use Rattle.swap_records.specs.declared.Pair.{Pair}
 use Rattle.swap_reckoning.specs.Asked.{crossings, newsIn, becomesIn, newsAfter, settledIn, noted, lowNoted, bothNoted}
 use Rattle.swap_reckoning.specs.Asked.{lowSettled, highSettled, crossedNode, news-none, news-all, news-next, becomes-then}
-use Rattle.swap_reckoning.specs.Searching.{News, settledAt, withNeeded, Searchable, Noted}
-use Rattle.swap_reckoning.specs.Noting.{newsOf, pair-noted, settled-in}
+use Rattle.swap_reckoning.specs.Searching.{News, withNeeded, Searchable, Noted}
+use Rattle.swap_reckoning.specs.Noting.{newsOf, pair-noted, settled-in, free-count}
 use Rattle.swap_reckoning.specs.declared.Counts.{Counts}
 use Rattle.swap_reckoning.specs.declared.news.Crossed.{Crossed}
 use Rattle.swap_reckoning.specs.declared.news.Settled.{Settled}
@@ -242,3 +243,13 @@ module _ {t : List ℕ} {p : Pair} {crossing standing slots : List ℕ} where
           news-are = A .noted ∙ rw (T .so-far .news-are, place) (sym (news-next t (p .x .0) (p .y .0) k among));
           kept-are = λ j l. either-side j k (becomes-before j) (λ d. let z : j ≡ k = omega arith in rw z becomes-here);
         }
+
+-- ---- the numbers of a swap
+
+module _ {t : List ℕ} {p : Pair} {crossing standing slots news kept : List ℕ} {q : Counts} (R : Reckoned t p crossing standing slots news kept q) where
+  pub needed-is : q .needed ≡ needed plain (at (decode t)) (records t) (p .x .0) (p .y .0)
+  unfolding needed
+  needed-is = sym (length-pairs (p .x .0) news (q .needed)) ∙ ap length (R .news-are)
+
+  pub free-is : q .free ≡ freeCount (at (decode t)) (records t)
+  free-is = free-count t (R .sorted .sources .slots-are)

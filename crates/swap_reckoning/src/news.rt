@@ -3,17 +3,30 @@ ghost use mathlib.Core.Path.{_≡_};
 ghost use Prim.Native.Nat.{_+_, _*_, _<_, _≤_};
 ghost use lib.ListN.{length, getD};
 ghost use Rattle.lists.specs.First.{first};
-ghost use Rattle.diagrams.specs.Layout.{InTable};
+ghost use Rattle.diagrams.specs.Layout.{mostRecords, InTable};
 ghost use Rattle.swap_records.specs.Listed.{Inside};
 ghost use Rattle.swap_records.specs.Pairs.{PairRoom};
 ghost use Rattle.swap_reckoning.specs.Searching.{matchesAt, newAt, slotAt, Searchable, Noted};
 ghost use Rattle.swap_reckoning.specs.Reckoned.{TurnRoom, Asks, Answered, Sorted, Turn, Turns};
 use super::Counts;
+use diagrams::MOST_RECORDS;
 use diagrams::RecordNumber;
 use diagrams::Reference;
 use swap_records::Pair;
 use swap_records::collect;
 use swap_records::pairs;
+
+pub fn no_news() -> [u16; 4 * MOST_RECORDS]
+    ensures { λ l. ⌜ length l ≡ 4 * mostRecords ⌝ }
+{
+    [0u16; 4 * MOST_RECORDS]
+}
+
+pub fn none_kept() -> [u16; 2 * MOST_RECORDS]
+    ensures { λ l. ⌜ length l ≡ 2 * mostRecords ⌝ }
+{
+    [0u16; 2 * MOST_RECORDS]
+}
 
 // Is entry k of the standing records the one with low a and high b?
 fn matches(table: &[u8], standing: &[u16], k: usize, a: Reference, b: Reference) -> bool

@@ -6,8 +6,8 @@ use native.Mathlib.Omega.{arith}
 use native.Mathlib.Numerals.{add-one}
 use lib.ListN.{length, getD, set, length-set}
 use lib.Seq.{getD-set-same, getD-set-other}
-use Rattle.lists.specs.Tabulate.{tabulate, tabulate-agrees, tabulate-snoc}
-use Rattle.diagrams.specs.Node.{Node, node}
+use Rattle.lists.specs.Tabulate.{tabulate, length-tabulate, getD-tabulate, tabulate-agrees, tabulate-snoc}
+use Rattle.diagrams.specs.Node.{Node, free, node}
 
 -- there is an entry k
 abbrev pub PairRoom : List ℕ → ℕ → Type 0
@@ -20,6 +20,14 @@ pairAt v list k = node v (getD list (2 * k) 0) (getD list (2 * k + 1) 0)
 -- the first n records
 unfoldable pub pairsOf : ℕ → List ℕ → ℕ → List Node
 pairsOf v list n = tabulate n (pairAt v list)
+
+pub length-pairs : (v : ℕ) (list : List ℕ) (n : ℕ) → length (pairsOf v list n) ≡ n
+unfolding pairsOf
+length-pairs v list n = length-tabulate n (pairAt v list)
+
+pub pairs-at : (v : ℕ) (list : List ℕ) (n j : ℕ) → j < n → getD (pairsOf v list n) j free ≡ pairAt v list j
+unfolding pairsOf
+pairs-at v list n j h = getD-tabulate n (pairAt v list) j free h
 
 -- low and high are put at k
 unfoldable pub putAt : List ℕ → ℕ → ℕ → ℕ → List ℕ

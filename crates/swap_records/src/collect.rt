@@ -3,7 +3,7 @@ ghost use mathlib.Core.Path.{_≡_};
 ghost use Prim.Native.Nat.{_+_, _<_};
 ghost use lib.ListN.{length, getD};
 ghost use Rattle.lists.specs.Collect.{Pushed};
-ghost use Rattle.diagrams.specs.Layout.{records};
+ghost use Rattle.diagrams.specs.Layout.{mostRecords, records};
 ghost use Rattle.swap_records.specs.Listed.{RoomFor, FreeListed, Splitting, Splits};
 use super::Pair;
 use diagrams::MOST_RECORDS;
@@ -17,7 +17,9 @@ pub fn entry(list: &[u16], k: usize) -> RecordNumber
     RecordNumber(diagrams::wide16(list[k]))
 }
 
-pub fn no_entries() -> [u16; MOST_RECORDS] {
+pub fn no_entries() -> [u16; MOST_RECORDS]
+    ensures { λ l. ⌜ length l ≡ mostRecords ⌝ }
+{
     [0u16; MOST_RECORDS]
 }
 

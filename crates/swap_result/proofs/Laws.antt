@@ -1,43 +1,66 @@
 -- The records of the image: one law for each way out of a function, over plain variables.
-use Prim.Native.Nat.{ℕ}
-use mathlib.Core.Bool.{Bool, true, false}
+use Prim.Native.Nat.{ℕ, _+_, _*_, _≤_, _<_}
+use mathlib.Core.Bool.{Bool, true, false, _&&_}
 use mathlib.Core.List.{List}
-use mathlib.Core.Path.{_≡_, sym, _∙_}
+use mathlib.Core.Path.{_≡_, refl, ap₂, sym, _∙_}
+use native.Mathlib.Omega.{arith}
 use borrow.Author.Needs.{needs}
-use lib.ListN.{getD}
-use Rattle.diagrams.specs.Node.{Node, free, node}
-use Rattle.diagrams.specs.Decode.{eight}
+use lib.ListN.{length, getD}
+use Rattle.lists.specs.Fold.{fold, Steps, steps-begin, steps-go, steps-end}
+use Rattle.diagrams.specs.Layout.{records, InTable}
+use Rattle.diagrams.specs.Node.{free, node}
+use Rattle.diagrams.specs.Decode.{nodeAt, eight}
 use Rattle.diagrams.specs.Store.{laid, storedAt}
 use Rattle.diagrams.specs.declared.Fields.{Fields}
-use Rattle.swap_records.specs.Grands.{Grands}
-use Rattle.swap_records.specs.declared.Grandchildren.{Grandchildren}
-use Rattle.swap_reckoning.specs.Reckoning.{News, settledAt, unnamed, crossedAt}
-use Rattle.swap_result.specs.Image.{buriedAt}
+use Rattle.swap_records.specs.Kinds.{ofAt}
+use Rattle.swap_records.specs.Listed.{entries}
+use Rattle.swap_records.specs.Pairs.{pairAt}
+use Rattle.swap_reckoning.specs.Naming.{unnamed}
+use Rattle.swap_result.specs.Image.{stayingAt, stayed, placed}
 
--- ---- record i afterwards
+-- ---- a record
 
-pub laid-as : (v : ℕ) {a b c d : ℕ} (f : Fields) → a ≡ c → b ≡ d → laid f ≡ eight (node v a b) → laid f ≡ eight (node v c d)
-laid-as v f p q e = rw (← p, ← q) e
+module _ (t : List ℕ) (y : ℕ) (names : List ℕ) (i : ℕ) (f : Fields) {b u : Bool} (of-y : b ≡ ofAt t y i) (none : u ≡ unnamed names i) where
+  pub stays-free : (b && u) ≡ true → laid f ≡ eight free → laid f ≡ eight (stayingAt t y names i)
+  unfolding stayingAt
+  stays-free h e = rw (sym (ap₂ _&&_ of-y none) ∙ h) e
 
-pub crossed-is : (t : List ℕ) (y : ℕ) (standing : List ℕ) (m : ℕ) (p : News) (slots : List ℕ) (frees i : ℕ) {g : Grandchildren} {a b : ℕ} (f : Fields) → Grands t y i g
-    → a ≡ settledAt t standing m p slots frees (g .f00 .0) (g .f10 .0) → b ≡ settledAt t standing m p slots frees (g .f01 .0) (g .f11 .0) → laid f ≡ eight (node y a b)
-    → laid f ≡ eight (crossedAt t y standing m p slots frees i)
-unfolding crossedAt
-crossed-is t y standing m p slots frees i f g u v e = rw (← g .is00, ← g .is01, ← g .is10, ← g .is11, ← u, ← v) e
+  pub stays : (b && u) ≡ false → laid f ≡ eight (nodeAt t i) → laid f ≡ eight (stayingAt t y names i)
+  unfolding stayingAt
+  stays h e = rw (sym (ap₂ _&&_ of-y none) ∙ h) e
 
--- ---- the image
+pub pair-laid : (v : ℕ) (pairs : List ℕ) (k : ℕ) {a b : ℕ} (f : Fields) → a ≡ getD pairs (2 * k) 0 → b ≡ getD pairs (2 * k + 1) 0 → laid f ≡ eight (node v a b)
+    → laid f ≡ eight (pairAt v pairs k)
+pair-laid v pairs k f p q e = rw (← p, ← q) e
 
--- a record that depends on its number
-pub stored-entry : (l list : List ℕ) (k : ℕ) (f : Fields) (m : ℕ → Node) {i : ℕ} {l′ : List ℕ} → i ≡ getD list k 0 → l′ ≡ storedAt l i (laid f) → laid f ≡ eight (m i) → l′ ≡ storedAt l (getD list k 0) (eight (m (getD list k 0)))
-stored-entry l list k f m p q e = rw (← p, ← e) q
+-- ---- a loop that stores records, at k of m
 
-module _ (names l : List ℕ) (i : ℕ) {b : Bool} (is : b ≡ unnamed names i) where
-  pub buried : {l′ : List ℕ} (f : Fields) → b ≡ true → laid f ≡ eight free → l′ ≡ storedAt l i (laid f) → l′ ≡ buriedAt names l i
-  unfolding buriedAt
-  buried f h e q = rw (sym is ∙ h, ← e) q
+pub record Storing (step : List ℕ → ℕ → List ℕ) (start : List ℕ) (m k : ℕ) (l : List ℕ) : Type 0 where
+  pub same : length l ≡ length start
+  pub steps : Steps step start m k l
 
-  pub spared : b ≡ false → l ≡ buriedAt names l i
-  unfolding buriedAt
-  spared h = rw (sym is ∙ h)
+module _ {step : List ℕ → ℕ → List ℕ} {start : List ℕ} {m : ℕ} where
+  pub storing-begins : Storing step start m 0 start
+  storing-begins = record { same = refl; steps = steps-begin }
 
-pub ruleset burying = (buried, spared, needs)
+  module _ {k : ℕ} {l : List ℕ} (w : Storing step start m k l) where
+    pub storing-inside : (i : ℕ) → InTable start i → InTable l i
+    storing-inside i h = omega (arith, w .same)
+
+    pub storing-goes : {l′ : List ℕ} → l′ ≡ step l k → length l′ ≡ length l → k < m → Storing step start m (k + 1) l′
+    storing-goes e s h = record { same = s ∙ w .same; steps = steps-go (w .steps) h e }
+
+    pub storing-ends : {n : ℕ} → m ≤ k → m ≡ n → l ≡ fold step start n
+    storing-ends h e = rw (← e) (steps-end (w .steps) h)
+
+pub stays-stored : (t : List ℕ) (y : ℕ) (names l : List ℕ) (i : ℕ) (f : Fields) {l′ : List ℕ} → laid f ≡ eight (stayingAt t y names i)
+    → l′ ≡ storedAt l i (laid f) → l′ ≡ stayed t y names l i
+unfolding stayed
+stays-stored t y names l i f p q = rw (← p) q
+
+pub pair-stored : (v : ℕ) (pairs numbers l : List ℕ) (k : ℕ) (f : Fields) {i : ℕ} {l′ : List ℕ} → laid f ≡ eight (pairAt v pairs k) → i ≡ getD numbers k 0
+    → l′ ≡ storedAt l i (laid f) → l′ ≡ placed v pairs numbers l k
+unfolding placed
+pair-stored v pairs numbers l k f p e q = rw (← p, ← e) q
+
+pub ruleset storing = (storing-begins, storing-inside, storing-goes, storing-ends, stays-stored, pair-stored, entries)

@@ -1,108 +1,89 @@
--- What the work area, the table and the entry hold at each way out, over plain variables.
-use Prim.Native.Nat.{ℕ, _+_, _-_, _*_, _%_, _≤_, _<_}
+-- What the reckoning, the image and the table hold at each way out, over plain variables.
+use Prim.Native.Nat.{ℕ, _*_, _≤_, _<_}
 use mathlib.Core.Bool.{true, false, cond}
 use mathlib.Core.List.{List, _++_, append-nil}
 use mathlib.Core.Path.{_≡_, refl, ap, ap₂, sym, _∙_}
 use native.Mathlib.Nat.{le-refl}
 use native.Mathlib.Omega.{arith}
-use borrow.Author.Tests.{le-leb, lt-leb}
-use lib.ListN.{length, getD, take, drop, drop-of-length-le}
-use lib.Seq.{take-at}
+use borrow.Author.Needs.{needs}
+use borrow.Author.Tests.{leb-true, le-leb, lt-leb}
+use lib.Dec.{leb}
+use lib.ListN.{length, take, drop-of-length-le}
+use Rattle.lists.specs.Apart.{apart}
 use Rattle.lists.specs.Copy.{copied, copied-first}
 use Rattle.lists.specs.Fold.{Steps, steps-end}
-use Rattle.lists.specs.Says.{true-false}
-use Rattle.lists.specs.Tabulate.{tabulate, length-tabulate, tabulate-agrees}
-use Rattle.diagrams.specs.Layout.{recordSize, records}
-use Rattle.diagrams.specs.Node.{Node, at}
-use Rattle.diagrams.specs.Decode.{decode, encode}
-use Rattle.diagrams.specs.Lookup.{rootsOf}
-use Rattle.diagrams.specs.Store.{length-encode}
-use Rattle.orders.specs.Permutation.{ceiling, Permutation}
-use Rattle.check_permutation.specs.BadPlace.{permutation-if}
-use Rattle.orders.specs.Exchange.{exchange}
-use Rattle.orders.specs.Order.{loadOrder, exchangedOrder, Inverse}
-use Rattle.orders.specs.Load.{load-variables}
-use Rattle.orders.specs.Arranged.{bytesOf, Arranged, load-bytes, load-arranged, arranged-inverse, exchanged-bytes}
-use Rattle.orders.specs.declared.Order.{Order}
-use Rattle.check_sizes.specs.Sizes.{Sizes, Sized, sized, sizes-if}
-use Rattle.checks.specs.Stages.{refusal, verdictOf, clear-only, row-refuses, row-passes, place-refuses, place-passes}
-use Rattle.checks.specs.Check.{checkStages}
-use Rattle.checks.specs.Usable.{Passes, passes-all}
-use Rattle.checks.specs.declared.Refusal.{Refusal}
-use Rattle.checks.specs.declared.Verdict.{Verdict}
-use Rattle.checks.specs.declared.Verdict.the-variants as verdict
-use Rattle.diagrams.specs.Edition.{plain}
-use Rattle.swap_rules.specs.Swap.{xAt, yAt, recordAfter, swapped}
-use Rattle.swap_reckoning.specs.Reckoning.{News, namesOf, rewritten}
-use Rattle.swap_reckoning.specs.Reckoned.{Reckoned, needed-is, free-count-is, fits-is, rewritten-is}
-use Rattle.swaps.specs.Bytes.{length-decode}
-use Rattle.swaps.specs.Outcome.{neededIn, freeIn, fitsIn, tableAfter}
-use Rattle.swaps.specs.Work.{roomOf, room-enough, room-lacking, Prepared, RoomOutcome}
-use Rattle.swaps.specs.declared.Room.{Room}
-use Rattle.swaps.specs.declared.Room.the-variants as room
-use Rattle.swaps.specs.declared.SwapAnswer.the-variants.{Made, NoRoom, Refused}
+use Rattle.diagrams.specs.Layout.{recordSize, mostRecords, records}
+use Rattle.check_sizes.specs.Sizes.{Sized}
+use Rattle.swap_rules.specs.Swap.{xAt, yAt, fits}
+use Rattle.swap_records.specs.declared.Pair.{Pair}
+use Rattle.swap_reckoning.specs.Reckoned.{SortRoom, TurnRoom, Reckoned, needed-is, free-is}
+use Rattle.swap_reckoning.specs.declared.Counts.{Counts}
+use Rattle.swap_result.specs.Image.{Fillable, Filled}
+use Rattle.swaps.specs.Outcome.{lack, wayOf, isClear, tableAfter, TableSwapped}
+use Rattle.swaps.specs.Work.{PairAt, wayBy, Preparing, Prepared}
+use Rattle.swaps.specs.declared.Lack.{Lack}
+use Rattle.swaps.specs.declared.Way.{Way}
+use Rattle.swaps.specs.declared.Way.the-variants as way
 
--- ---- the work area
+-- ---- the answer
 
-module _ {t : List ℕ} {x y : ℕ} {standing : List ℕ} {m : ℕ} {p : News} {slots : List ℕ} {frees : ℕ} (R : Reckoned t x y standing m p slots frees) (r : List ℕ) where
-  no-fit : frees < p .count → fitsIn t x y ≡ false
-  no-fit h = sym (fits-is R) ∙ lt-leb (p .count) frees h
+module _ (k : ℕ) (q : Counts) where
+  pub way-lacks : q .free < q .needed → way.NoRoom (lack k (q .needed) (q .free)) ≡ wayBy k q
+  unfolding wayBy
+  way-lacks h = rw (lt-leb (q .needed) (q .free) h)
 
-  fit : p .count ≤ frees → fitsIn t x y ≡ true
-  fit h = sym (fits-is R) ∙ le-leb (p .count) frees h
+  pub way-clears : q .needed ≤ q .free → way.Clear ≡ wayBy k q
+  unfolding wayBy
+  way-clears h = rw (le-leb (q .needed) (q .free) h)
 
-  answered-no : frees < p .count → room.Lacking (p .count) frees ≡ roomOf t x y
-  unfolding roomOf
-  answered-no h = rw (no-fit h, ← needed-is R, ← free-count-is R)
+  fit-by : {w : Way} → w ≡ wayBy k q → w ≡ way.Clear → q .needed ≤ q .free
+  unfolding wayBy
+  fit-by e c = leb-true (q .needed) (q .free) (go (leb (q .needed) (q .free)) (sym c ∙ e))
+    where
+      go : (b : _) → way.Clear ≡ cond b way.Clear (way.NoRoom (lack k (q .needed) (q .free))) → b ≡ true
+      go true z = refl
+      go false z = apart (cc)
 
-  answered-yes : p .count ≤ frees → room.Enough ≡ roomOf t x y
-  unfolding roomOf
-  answered-yes h = rw (fit h)
+-- ---- the reckoning
 
-  pub prepared-none : (image : List ℕ) → frees < p .count → Prepared t r x y (room.Lacking (p .count) frees) image
-  prepared-none image h = record { answer = answered-no h; table = λ e. true-false (sym e ∙ no-fit h) }
+module _ {t : List ℕ} {p : Pair} {crossing standing slots news kept : List ℕ} {q : Counts} (R : Reckoned t p crossing standing slots news kept q)
+    {o : List ℕ} {k : ℕ} (P : PairAt o k p) {w : Way} (by : w ≡ wayBy k q) where
+  pub asked : w ≡ wayOf t o k
+  unfolding wayBy wayOf fits
+  asked = by ∙ rw (needed-is R, free-is R, P .is-x, P .is-y)
 
-  module _ (names image : List ℕ) (names-are : names ≡ namesOf t r x standing m) (h : p .count ≤ frees) (whole : length t % recordSize ≡ 0) where
-    nodes : ℕ → Node
-    nodes = rewritten t x y standing m p slots frees names
+  pub lacking : {r image : List ℕ} {l : Lack} → w ≡ way.NoRoom l → Prepared t r o k (way.NoRoom l) image
+  lacking e = record { answer = sym e ∙ asked; table = λ z. apart (cc) }
 
-    fewer : neededIn t x y ≤ freeIn t
-    fewer = rw (← needed-is R, ← free-count-is R) h
-
-    swapped-nodes : tabulate (records t) nodes ≡ swapped plain (decode t) x y (rootsOf r)
-    unfolding swapped nodes
-    swapped-nodes =
-        tabulate-agrees (records t) _ _ (λ i b. rewritten-is R r names names-are fewer i b)
-        ∙ ap (λ n. tabulate n (recordAfter plain (at (decode t)) n x y (rootsOf r))) (sym (length-decode t))
-
-    long-encode : length (encode (tabulate (records t) nodes)) ≡ length t
-    long-encode = length-encode (tabulate (records t) nodes) ∙ ap (λ n. recordSize * n) (length-tabulate (records t) nodes) ∙ omega arith
-
-    pub prepared-made : {l : List ℕ} → l ≡ encode (tabulate (records t) (rewritten t x y standing m p slots frees names)) ++ drop (recordSize * records t) image → Prepared t r x y room.Enough l
-    unfolding tableAfter nodes
-    prepared-made a = record {
-      answer = answered-yes h;
-      table = λ e.
-          ap (take (length t)) a
-          ∙ take-at (encode (tabulate (records t) nodes)) (drop (recordSize * records t) image) (length t) long-encode
-          ∙ ap encode swapped-nodes;
+  module _ (clear : w ≡ way.Clear) where
+    pub fillable : {r image : List ℕ} → Preparing t r k image → Fillable t r p crossing standing slots news kept q image
+    fillable a = record {
+      sized = a .sized;
+      small-x = P .small-x;
+      small-y = P .small-y;
+      reckoned = R;
+      fit = fit-by k q by clear;
+      long = omega (arith, a .long, a .sized .few-records);
     }
+
+    pub prepared : {r image : List ℕ} → Filled t r p image → Prepared t r o k way.Clear image
+    unfolding tableAfter
+    prepared f = record { answer = sym clear ∙ asked; table = λ z. f .is ∙ rw (P .is-x, P .is-y) }
 
 -- ---- the table
 
-pub published : (table image : List ℕ) {i : ℕ} {l : List ℕ} → Steps (copied image) table (length table) i l → length table ≤ i → length table ≤ length image → l ≡ take (length table) image
+pub published : (table image : List ℕ) {i : ℕ} {l : List ℕ} → Steps (copied image) table (length table) i l → length table ≤ i → length table ≤ length image
+    → l ≡ take (length table) image
 published table image s e h =
     steps-end s e ∙ copied-first image table (length table) h (omega arith)
-    ∙ ap (λ d. take (length table) image ++ d) (drop-of-length-le table {i = length table} (le-refl (length table))) ∙ append-nil (take (length table) image)
+    ∙ ap (λ d. take (length table) image ++ d) (drop-of-length-le table {i = length table} (le-refl (length table)))
+    ∙ append-nil (take (length table) image)
 
-module _ (t r : List ℕ) (x y : ℕ) where
-  pub room-none : {a : Room} {image : List ℕ} (n f : ℕ) → Prepared t r x y a image → a ≡ room.Lacking n f → RoomOutcome t r x y (room.Lacking n f) t
-  room-none n f p e =
-      let q : room.Lacking n f ≡ roomOf t x y = sym e ∙ p .answer in
-      record { answer = q; table = rw (room-lacking t x y n f q) }
+module _ {t r o : List ℕ} {k : ℕ} {w : Way} {image : List ℕ} (P : Prepared t r o k w image) where
+  pub not-swapped : {l : Lack} → w ≡ way.NoRoom l → TableSwapped t r o k (way.NoRoom l) t
+  not-swapped e = record { answer = sym e ∙ P .answer; table = refl }
 
-  pub room-made : {a : Room} {image t′ : List ℕ} → Prepared t r x y a image → a ≡ room.Enough → t′ ≡ take (length t) image → RoomOutcome t r x y room.Enough t′
-  room-made p e w =
-      let q : room.Enough ≡ roomOf t x y = sym e ∙ p .answer in
-      let f : fitsIn t x y ≡ true = room-enough t x y q in
-      record { answer = q; table = rw f (w ∙ p .table f) }
+  pub table-swapped : {t′ : List ℕ} → w ≡ way.Clear → t′ ≡ take (length t) image → TableSwapped t r o k way.Clear t′
+  table-swapped e s = record { answer = sym e ∙ P .answer; table = s ∙ P .table e }
+
+pub ruleset preparing = (asked, lacking, fillable, prepared, needs)

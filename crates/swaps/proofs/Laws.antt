@@ -21,12 +21,10 @@ use Rattle.checks.specs.declared.Refusal.{Refusal}
 use Rattle.checks.specs.declared.Verdict.{Verdict}
 use Rattle.checks.specs.declared.Verdict.the-variants as verdict
 use Rattle.swap_rules.specs.Swap.{xAt, yAt}
-use Rattle.swaps.specs.Outcome.{fitsIn, lack, wayOf, isClear, tableAfter, TableSwapped, noLevel, swapStages, swapAfter, swapJudged, swapOf, SwapOutcome}
-use Rattle.swaps.specs.Work.{roomOf, wayFrom, way-is, room-enough, room-lacking, RoomOutcome, Swappable, SwapDone}
+use Rattle.swaps.specs.Outcome.{wayOf, isClear, tableAfter, TableSwapped, noLevel, swapStages, swapAfter, swapJudged, swapOf, SwapOutcome}
+use Rattle.swaps.specs.Work.{Swappable, SwapDone}
 use Rattle.swaps.specs.Entry.{swap-starts}
 use Rattle.swaps.specs.declared.Lack.{Lack}
-use Rattle.swaps.specs.declared.Room.{Room}
-use Rattle.swaps.specs.declared.Room.the-variants as room
 use Rattle.swaps.specs.declared.Way.{Way}
 use Rattle.swaps.specs.declared.Way.the-variants as way
 use Rattle.swaps.specs.declared.SwapAnswer.{SwapAnswer}
@@ -53,22 +51,6 @@ module _ (t r o : List ℕ) (k : ℕ) {v : Verdict} (judged : v ≡ verdictOf (c
     two-levels h =
         let there : false ≡ noLevel o k = sym (lt-leb (length o - 1) k h) in
         row-passes (checkStages t r o) _ judged clear (place-passes 12 k (noLevel o k) false verdict.Clear verdict.Clear there refl refl)
-
--- ---- two variables of an order
-
-pub way-lacking : {k n f : ℕ} {a : Room} → a ≡ room.Lacking n f → way.NoRoom (lack k n f) ≡ wayFrom k a
-way-lacking e = rw e
-
-module _ (t o : List ℕ) (k : ℕ) {x y : ℕ} (is-x : x ≡ getD o k 0) (is-y : y ≡ getD o (k + 1) 0) {a : Room} {w : Way} (is-way : w ≡ wayFrom k a) where
-  pub asked-way : a ≡ roomOf t x y → w ≡ wayOf t o k
-  asked-way e = is-way ∙ ap (wayFrom k) (e ∙ ap₂ (roomOf t) is-x is-y) ∙ way-is t o k
-
-  pub table-swapped : (r : List ℕ) {t′ : List ℕ} → RoomOutcome t r x y a t′ → TableSwapped t r o k w t′
-  table-swapped r {t′} q = record { answer = asked-way (q .answer); table = rw (is-way, ← is-x, ← is-y) (go a refl) }
-    where
-      go : (b : Room) → a ≡ b → t′ ≡ cond (isClear (wayFrom k b)) (tableAfter t r x y) t
-      go room.Enough e = q .table ∙ rw (room-enough t x y (sym e ∙ q .answer))
-      go (room.Lacking n f) e = q .table ∙ rw (room-lacking t x y n f (sym e ∙ q .answer))
 
 -- ---- the swap of an accepted table
 

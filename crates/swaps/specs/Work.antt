@@ -1,71 +1,52 @@
--- How the code of a swap goes: room for two variables, the image of the table, and the parts of the entry.
+-- How the code of a swap goes: the reckoning's answer, the image of the table, and the parts of the entry.
 use Prim.Native.Nat.{ℕ, _+_, _*_, _%_, _≤_, _<_}
-use mathlib.Core.Bool.{Bool, true, false, cond}
+use mathlib.Core.Bool.{cond}
 use mathlib.Core.List.{List}
-use mathlib.Core.Path.{_≡_, refl}
+use mathlib.Core.Path.{_≡_}
+use lib.Dec.{leb}
 use lib.ListN.{length, take}
-use Rattle.lists.specs.Apart.{apart}
 use Rattle.diagrams.specs.Layout.{recordSize, mostRecords}
 use Rattle.orders.specs.Permutation.{ceiling}
+use Rattle.check_sizes.specs.Sizes.{Sized}
 use Rattle.checks.specs.Usable.{Usable}
 use Rattle.swap_rules.specs.Swap.{xAt, yAt}
-use Rattle.swaps.specs.Outcome.{neededIn, freeIn, fitsIn, lack, wayOf, tableAfter, swapAfter}
-use Rattle.swaps.specs.declared.Room.{Room}
-use Rattle.swaps.specs.declared.Room.the-variants as room
+use Rattle.swap_records.specs.declared.Pair.{Pair}
+use Rattle.swap_reckoning.specs.declared.Counts.{Counts}
+use Rattle.swaps.specs.Outcome.{lack, wayOf, tableAfter, swapAfter}
 use Rattle.swaps.specs.declared.Way.{Way}
 use Rattle.swaps.specs.declared.Way.the-variants as way
 use Rattle.swaps.specs.declared.SwapAnswer.{SwapAnswer}
 
-unfoldable pub roomOf : List ℕ → ℕ → ℕ → Room
-roomOf t x y = cond (fitsIn t x y) room.Enough (room.Lacking (neededIn t x y) (freeIn t))
+-- ---- what stands in the way, by the counts of the reckoning
 
-abbrev pub wayFrom : ℕ → Room → Way
-wayFrom k room.Enough = way.Clear
-wayFrom k (room.Lacking needed free) = way.NoRoom (lack k needed free)
+unfoldable pub wayBy : ℕ → Counts → Way
+wayBy k q = cond (leb (q .needed) (q .free)) way.Clear (way.NoRoom (lack k (q .needed) (q .free)))
 
-pub way-is : (t o : List ℕ) (k : ℕ) → wayFrom k (roomOf t (xAt o k) (yAt o k)) ≡ wayOf t o k
-unfolding roomOf wayOf
-way-is t o k = go (fitsIn t (xAt o k) (yAt o k))
-  where
-    n : ℕ
-    n = neededIn t (xAt o k) (yAt o k)
-
-    go : (b : Bool) → wayFrom k (cond b room.Enough (room.Lacking n (freeIn t))) ≡ cond b way.Clear (way.NoRoom (lack k n (freeIn t)))
-    go true = refl
-    go false = refl
-
-module _ (t : List ℕ) (x y : ℕ) where
-  pub room-enough : room.Enough ≡ roomOf t x y → fitsIn t x y ≡ true
-  unfolding roomOf
-  room-enough e = go (fitsIn t x y) e
-    where
-      go : (b : Bool) → room.Enough ≡ cond b room.Enough (room.Lacking (neededIn t x y) (freeIn t)) → b ≡ true
-      go true q = refl
-      go false q = apart (cc)
-
-  pub room-lacking : (n f : ℕ) → room.Lacking n f ≡ roomOf t x y → fitsIn t x y ≡ false
-  unfolding roomOf
-  room-lacking n f e = go (fitsIn t x y) e
-    where
-      go : (b : Bool) → room.Lacking n f ≡ cond b room.Enough (room.Lacking (neededIn t x y) (freeIn t)) → b ≡ false
-      go true q = apart (cc)
-      go false q = refl
-
--- the image holds the table afterwards
-pub record Prepared (t r : List ℕ) (x y : ℕ) (a : Room) (image : List ℕ) : Type 0 where
-  pub answer : a ≡ roomOf t x y
-  pub table : fitsIn t x y ≡ true → take (length t) image ≡ tableAfter t r x y
-
--- a swap of two variables
-pub record RoomOutcome (t r : List ℕ) (x y : ℕ) (a : Room) (t′ : List ℕ) : Type 0 where
-  pub answer : a ≡ roomOf t x y
-  pub table : t′ ≡ cond (fitsIn t x y) (tableAfter t r x y) t
+-- the variables of levels k and k + 1
+pub record PairAt (o : List ℕ) (k : ℕ) (p : Pair) : Type 0 where
+  pub is-x : p .x .0 ≡ xAt o k
+  pub is-y : p .y .0 ≡ yAt o k
+  pub small-x : p .x .0 < 256
+  pub small-y : p .y .0 < 256
 
 -- what asking for a swap of levels k and k + 1 takes
 pub record Asking (t : List ℕ) (k : ℕ) : Type 0 where
   pub few-records : length t ≤ recordSize * mostRecords
   pub whole-records : length t % recordSize ≡ 0
   pub level : k + 1 < ceiling
+
+-- what preparing it takes: room for the table in the image
+pub record Preparing (t r : List ℕ) (k : ℕ) (image : List ℕ) : Type 0 where
+  pub sized : Sized t r
+  pub level : k + 1 < ceiling
+  pub long : length image ≡ recordSize * mostRecords
+
+-- the front of the image is the table afterwards, if nothing stands in the way
+pub record Prepared (t r o : List ℕ) (k : ℕ) (w : Way) (image : List ℕ) : Type 0 where
+  pub answer : w ≡ wayOf t o k
+  pub table : w ≡ way.Clear → take (length t) image ≡ tableAfter t r (xAt o k) (yAt o k)
+
+-- ---- the entry
 
 -- a table that is accepted, and two levels of its order
 pub record Swappable (t r o : List ℕ) (k : ℕ) : Type 0 where

@@ -8,23 +8,16 @@ ghost use Rattle.check_sizes.specs.Sizes.{Sized};
 ghost use Rattle.orders.specs.Permutation.{ceiling};
 ghost use Rattle.checks.specs.Stages.{verdictOf};
 ghost use Rattle.swaps.specs.Outcome.{wayOf, TableSwapped, swapStages, SwapOutcome};
-ghost use Rattle.swaps.specs.Work.{roomOf, wayFrom, Prepared, RoomOutcome, Asking, Swappable, SwapDone};
+ghost use Rattle.swaps.specs.Work.{PairAt, wayBy, Asking, Preparing, Prepared, Swappable, SwapDone};
 use checks::Refusal;
 use checks::Verdict;
 use diagrams::MOST_RECORDS;
 use diagrams::RECORD_SIZE;
-use diagrams::Variable;
 use orders::Order;
-use swap_reckoning::names;
+use swap_reckoning::Counts;
 use swap_reckoning::news;
+use swap_records::Pair;
 use swap_records::collect;
-use swap_result::Numbers;
-
-// Is there room for a swap of two variables?
-enum Room {
-    Enough,
-    Lacking { needed: usize, free: usize },
-}
 
 // What a swap without room tells: its upper level, the new records that it needs, and the free ones that there are.
 pub struct Lack {
@@ -45,59 +38,100 @@ pub enum SwapAnswer {
     Refused(Refusal),
 }
 
-// ---- the work area
+// ---- asking: the reckoning over lists that are made for it
+
+// The variables of levels level and level + 1.
+fn pair_at(order: Order, level: usize) -> Pair
+    requires { ⌜ level + 1 < ceiling ⌝ }
+    ensures { λ p. ⌜ PairAt (order .variables) level p ⌝ }
+{
+    let x = order.variable_at(level);
+    let y = order.variable_at(level + 1);
+    Pair { x, y }
+}
+
+// What stands in the way of a swap with these counts.
+fn way_by(level: usize, counts: Counts) -> Way
+    ensures { λ w. ⌜ w ≡ wayBy level counts ⌝ }
+{
+    let needed = counts.needed;
+    let free = counts.free;
+    if free < needed {
+        return Way::NoRoom(Lack {
+            level,
+            needed,
+            free,
+        });
+    }
+    Way::Clear
+}
+
+// What stands in the way of the swap of levels level and level + 1? Nothing is written.
+pub fn ask(table: &[u8], order: Order, level: usize) -> Way
+    requires { ⌜ Asking (now table) level ⌝ }
+    ensures { λ w. ⌜ w ≡ wayOf (now (table .entry)) (order .variables) level ⌝ }
+{
+    let pair = pair_at(order, level);
+    let mut crossing = collect::no_entries();
+    let mut standing = collect::no_entries();
+    let mut slots = collect::no_entries();
+    let mut news = news::no_news();
+    let mut kept = news::none_kept();
+    let counts = swap_reckoning::reckon(
+        table,
+        pair,
+        &mut crossing,
+        &mut standing,
+        &mut slots,
+        &mut news,
+        &mut kept,
+    );
+    way_by(level, counts)
+}
+
+// ---- swapping: the image is filled after the same reckoning, and then published
 
 fn no_image() -> [u8; RECORD_SIZE * MOST_RECORDS] {
     [0u8; RECORD_SIZE * MOST_RECORDS]
 }
 
-// The table after the swap of x and y goes to the image, where there is room.
-fn prepare(table: &[u8], roots: &[u8], x: Variable, y: Variable, image: &mut [u8]) -> Room
-    requires { ⌜ (Sized (now table) (now roots) × (length (now image) ≡ recordSize * mostRecords)) × ((x .0 < 256) × (y .0 < 256)) ⌝ }
-    ensures { λ a. ⌜ Prepared (now (table .entry)) (now (roots .entry)) (x .0) (y .0) a (now (image .exit)) ⌝ }
+// The table afterwards goes to the image, if nothing stands in the way.
+fn prepare(table: &[u8], roots: &[u8], order: Order, level: usize, image: &mut [u8]) -> Way
+    requires { ⌜ Preparing (now table) (now roots) level (now image) ⌝ }
+    ensures { λ w. ⌜ Prepared (now (table .entry)) (now (roots .entry)) (order .variables) level w (now (image .exit)) ⌝ }
 {
+    let pair = pair_at(order, level);
     let mut crossing = collect::no_entries();
     let mut standing = collect::no_entries();
     let mut slots = collect::no_entries();
     let mut news = news::no_news();
-    let split = collect::collect_x(table, x, y, &mut crossing, &mut standing);
-    let free = collect::collect_free(table, &mut slots);
-    let needed = news::reckon(
+    let mut kept = news::none_kept();
+    let counts = swap_reckoning::reckon(
         table,
-        y,
-        &standing,
-        split.standing,
-        &crossing,
-        split.crossing,
+        pair,
+        &mut crossing,
+        &mut standing,
+        &mut slots,
         &mut news,
+        &mut kept,
     );
-    if free < needed {
-        return Room::Lacking { needed, free };
+    let way = way_by(level, counts);
+    if let Way::NoRoom(lack) = way {
+        return Way::NoRoom(lack);
     }
-    let mut ys = collect::no_entries();
-    let y_count = collect::collect_of(table, y, &mut ys);
-    let names = names::count_names(table, roots, x, &standing, split.standing);
-    let q = Numbers {
-        x,
-        y,
-        crossing: split.crossing,
-        standing: split.standing,
-        ys: y_count,
-        needed,
-        free,
-    };
-    swap_result::rewrite(
+    swap_result::fill(
         table,
+        roots,
+        pair,
         &crossing,
         &standing,
-        &ys,
-        &news,
         &slots,
-        &names,
-        q,
+        &news,
+        &kept,
+        counts,
         image,
     );
-    Room::Enough
+    Way::Clear
 }
 
 // The one writer of a lent table: it knows nothing of diagrams.
@@ -113,63 +147,19 @@ fn publish(table: &mut [u8], image: &[u8])
     }
 }
 
-// The swap of x and y, where there is room.
-fn swap_variables(table: &mut [u8], roots: &[u8], x: Variable, y: Variable) -> Room
-    requires { ⌜ Sized (now table) (now roots) × ((x .0 < 256) × (y .0 < 256)) ⌝ }
-    ensures { λ a. ⌜ RoomOutcome (now (table .entry)) (now (roots .entry)) (x .0) (y .0) a (now (table .exit)) ⌝ }
-{
-    let mut image = no_image();
-    match prepare(table, roots, x, y, &mut image) {
-        Room::Lacking { needed, free } => Room::Lacking { needed, free },
-        Room::Enough => {
-            publish(table, &image);
-            Room::Enough
-        }
-    }
-}
-
-// Is there room for the swap of x and y?
-fn room_for(table: &[u8], x: Variable, y: Variable) -> Room
-    requires { ⌜ (length (now table) ≤ recordSize * mostRecords) × ((length (now table) % recordSize ≡ 0) × ((x .0 < 256) × (y .0 < 256))) ⌝ }
-    ensures { λ a. ⌜ a ≡ roomOf (now (table .entry)) (x .0) (y .0) ⌝ }
-{
-    let mut image = no_image();
-    prepare(table, b"", x, y, &mut image)
-}
-
-// ---- two levels of an order
-
-fn way_of(level: usize, room: Room) -> Way
-    ensures { λ w. ⌜ w ≡ wayFrom level room ⌝ }
-{
-    match room {
-        Room::Lacking { needed, free } => Way::NoRoom(Lack {
-            level,
-            needed,
-            free,
-        }),
-        Room::Enough => Way::Clear,
-    }
-}
-
-// What stands in the way of the swap of levels level and level + 1? Nothing is written.
-pub fn ask(table: &[u8], order: Order, level: usize) -> Way
-    requires { ⌜ Asking (now table) level ⌝ }
-    ensures { λ w. ⌜ w ≡ wayOf (now (table .entry)) (order .variables) level ⌝ }
-{
-    let x = order.variable_at(level);
-    let y = order.variable_at(level + 1);
-    way_of(level, room_for(table, x, y))
-}
-
 // The swap of levels level and level + 1 of the table, where nothing stands in its way. The order is the caller's to exchange.
 pub fn swap_table(table: &mut [u8], roots: &[u8], order: Order, level: usize) -> Way
     requires { ⌜ Sized (now table) (now roots) × (level + 1 < ceiling) ⌝ }
     ensures { λ w. ⌜ TableSwapped (now (table .entry)) (now (roots .entry)) (order .variables) level w (now (table .exit)) ⌝ }
 {
-    let x = order.variable_at(level);
-    let y = order.variable_at(level + 1);
-    way_of(level, swap_variables(table, roots, x, y))
+    let mut image = no_image();
+    match prepare(table, roots, order, level, &mut image) {
+        Way::NoRoom(lack) => Way::NoRoom(lack),
+        Way::Clear => {
+            publish(table, &image);
+            Way::Clear
+        }
+    }
 }
 
 // ---- the entry

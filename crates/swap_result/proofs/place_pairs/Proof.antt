@@ -1,0 +1,21 @@
+use Prim.Native.Nat.{_-_}
+use Rattle.swap_result.specs.Image.{placed}
+use Rattle.swap_result.proofs.Laws.{Storing, storing}
+use Rattle.swap_result.proofs.place_pairs.Statement.{statement}
+use Rattle.swap_result.proofs.place_pairs.Tie as tie
+
+pub place-pairs-spec : {M : Type 1} → statement M
+place-pairs-spec =
+    tie.close
+    (tie.spec
+    (λ v pairs numbers count image₀ k₀ image k. Storing (placed (v .0) pairs numbers) image₀ count k image)
+    (λ v pairs numbers count image₀ k₀ image k. count - k)
+    (λ c. search storing)
+    (λ c κs. search storing)
+    (λ c κs. search storing)
+    (λ c κs. search storing)
+    (λ c. search storing)
+    (λ c. search storing)
+    (λ c. search storing)
+    (λ c. search storing)
+    (λ c. search storing))
