@@ -33,7 +33,7 @@ exchange-levels ord k P b = record {
   index′-x = exchange-upper ord k P b;
   index′-y = exchange-lower ord k P b;
   others = exchange-other ord k P b;
-  apart = λ v w l e.
+  injective = λ v w l e.
       let m : levelOf ord w < length ord = rw e at l in
       sym (at-level-of ord v l) ∙ ap (λ (i : ℕ). getD ord i 0) e ∙ at-level-of ord w m;
 }
