@@ -73,8 +73,8 @@ unfoldable pub outcome : Row → Outcome
 unfolding nodeAt decode eight encode rootsOf runOf runStages badRunSizes badSizes only verdictFrom holdsAt badPlace levelOf tableStages dead malformed
     notUnder notBelow lowIsHigh sameRecord repeats deadRoot rootNames recordNames idle ranTo answerOf relay slice leaves over.judge made goes next arrived
     same? differsAt bringUp firstDifference exchange left inverted pairs total first count tabulate keep once each which look lowOf highOf isFreeNode isOf same
-    grandchild f00 f01 f10 f11 crosses asked stands isNew wanted news stillNames dies slots slotOf X becomes needed freeCount fits slotIndex filled recordAfter swapped
-    wayOf tableAfter namesRecord
+    grandchild f00 f01 f10 f11 crosses asked stands isNew wanted news stillNames dies slots slotOf X becomes needed freeCount fits slotIndex filled recordAfter
+    swapped wayOf tableAfter namesRecord
 outcome row =
     let g = row .given in
     let k = bringUp (g .order) (g .target) in
@@ -89,7 +89,7 @@ expected row =
 -- order 0 1, target 1 0: records, roots, budget; needed, answer, records, order and used records afterwards
 unfoldable pub swap : List Node → List ℕ → ℕ → ℕ → RunAnswer → List Node → List ℕ → ℕ → Row
 swap t r b n a t′ o u =
-    let g = record { records = t; roots = r; order = 0 ∷ 1 ∷ []; target = 1 ∷ 0 ∷ []; budget = b } in
+    let g : Given = record { records = t; roots = r; order = 0 ∷ 1 ∷ []; target = 1 ∷ 0 ∷ []; budget = b } in
     record { given = g; needed = n; answer = a; records = t′; order = o; used = u }
 
 -- no records, no roots

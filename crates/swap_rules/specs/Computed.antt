@@ -169,9 +169,9 @@ module _ {E : Edition} {T : ℕ → Node} {N x y : ℕ} (R : Fitting E T N x y) 
       go (filled-now f t) =
           let g : AskedFor E L x y (getD News (Index i) free) = filled-new R i t .0 in
           let m : isNew E T N x y (node x (g .a) (g .b)) ≡ true = rw (g .is) at (filled-new R i t .1) in
-          let apart : g .a ≢ g .b = says-new R _ _ .yes m .0 in
+          let differ : g .a ≢ g .b = says-new R _ _ .yes m .0 in
           let record-number : E .Terminal (ref i) → ⊥ = λ h. omega (arith, E .terminal-small (ref i) n h) in
-          fresh (g .a) (g .b) record-number (filled-open i t) (now ∙ after-filled i f t ∙ g .is) (g .for) apart (new-alone R _ _ (g .up) m)
+          fresh (g .a) (g .b) record-number (filled-open i t) (now ∙ after-filled i f t ∙ g .is) (g .for) differ (new-alone R _ _ (g .up) m)
       go (dies-now f g t) = gone t (now ∙ after-gone i f g t)
       go (stays-now f g d) = kept (now ∙ after-kept i f g d ∙ sym old) f d
 

@@ -50,7 +50,7 @@ module _ {Terminal : ℕ → Type 0} {L L′ : ℕ → Node} {Root : ℕ → Typ
   stand v i = ⊎-elim at-x (λ a. ⊎-elim at-y (λ b. other a b) (decided (says-eqb v y))) (decided (says-eqb v x))
     where
       other : v ≢ x → v ≢ y → Stand v
-      other a b = else (λ e. a (K .apart v x i (e ∙ sym (K .index-x)))) (λ e. b (K .apart v y i (e ∙ sym (K .index-y)))) (K .others v a b)
+      other a b = else (λ e. a (K .injective v x i (e ∙ sym (K .index-x)))) (λ e. b (K .injective v y i (e ∙ sym (K .index-y)))) (K .others v a b)
 
   inside : (v : ℕ) → index v < n → index′ v < n
   inside v i = go (stand v i)

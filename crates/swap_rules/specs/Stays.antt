@@ -51,7 +51,7 @@ module _ {Terminal : ℕ → Type 0} {L L′ : ℕ → Node} {Root : ℕ → Typ
       go (node v l h) e =
           let i : index v < n = D .graph .indexed r e in
           let b′ : k < index v = rw e at b in
-          let d : index v ≢ k + 1 = λ p. clash (of-node y (e ∙ ap (λ (u : ℕ). node u l h) (K .apart v y i (p ∙ sym (K .index-y))))) t in
+          let d : index v ≢ k + 1 = λ p. clash (of-node y (e ∙ ap (λ (u : ℕ). node u l h) (K .injective v y i (p ∙ sym (K .index-y))))) t in
           rw e (omega arith)
 
   pub deep-grand : (q l h : ℕ) → L q ≡ node x l h → (c d : Bool) → Deep (grandchild L y d (pick c l h))

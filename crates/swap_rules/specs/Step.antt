@@ -21,7 +21,7 @@ pub record Levels (index index′ : ℕ → ℕ) (n k x y : ℕ) : Type 0 where
   pub index′-x : index′ x ≡ k + 1
   pub index′-y : index′ y ≡ k
   pub others : (v : ℕ) → v ≢ x → v ≢ y → index′ v ≡ index v
-  pub apart : (v w : ℕ) → index v < n → index v ≡ index w → v ≡ w
+  pub injective : (v w : ℕ) → index v < n → index v ≡ index w → v ≡ w
 
 -- the reference, low or high, that a crossing record x (l, h) gets: X(f00, f10), or X(f01, f11)
 abbrev pub Side : (ℕ → Node) → ℕ → (ℕ → ℕ → ℕ) → Bool → ℕ → ℕ → ℕ

@@ -33,7 +33,7 @@ exchange-levels ord k P b = record {
   index′-x = exchange-upper ord k P b;
   index′-y = exchange-lower ord k P b;
   others = exchange-other ord k P b;
-  apart = λ v w l e.
+  injective = λ v w l e.
       let m : levelOf ord w < length ord = rw e at l in
       sym (at-level-of ord v l) ∙ ap (λ (i : ℕ). getD ord i 0) e ∙ at-level-of ord w m;
 }
@@ -52,15 +52,15 @@ pub record Written (E : Edition) (t : List Node) : Type 0 where
 pub plain-written : (t : List Node) → Written plain t
 plain-written t = record { own = λ i l. refl; upright = λ i v l h e. refl }
 
--- the levels k and k + 1 of an order can be swapped in the table t
-pub record Swappable (E : Edition) (t : List Node) (ord : List ℕ) (k : ℕ) : Type 0 where
+-- the swap of the levels k and k + 1 of the order fits in the table t
+pub record SwapFits (E : Edition) (t : List Node) (ord : List ℕ) (k : ℕ) : Type 0 where
   pub written : Written E t
   pub order : Permutation ord
   pub level : k + 1 < length ord
   pub fit : fits E (at t) (length t) (xAt ord k) (yAt ord k) ≡ true
 
 -- there are slots enough, as needed is not above free
-pub fitting : {E : Edition} {t : List Node} {ord : List ℕ} {k : ℕ} → Swappable E t ord k → Fitting E (at t) (length t) (xAt ord k) (yAt ord k)
+pub fitting : {E : Edition} {t : List Node} {ord : List ℕ} {k : ℕ} → SwapFits E t ord k → Fitting E (at t) (length t) (xAt ord k) (yAt ord k)
 unfolding fits freeCount slots
 fitting {E} {t} {ord} {k} S = record {
   differ = pair-differs ord k (S .order) (S .level);

@@ -28,7 +28,7 @@ use Rattle.swap_rules.specs.Fitting.{Fitting}
 use Rattle.swap_rules.specs.Dying.{dies-y, dies-unrooted}
 use Rattle.swap_rules.specs.Computed.{after-kept, dying-free, computed-step}
 use Rattle.swap_rules.specs.Count.{used-after}
-use Rattle.swap_rules.specs.Stored.{Written, Swappable, exchange-levels, fitting, swapped-in, swapped-seen, swapped-written}
+use Rattle.swap_rules.specs.Stored.{Written, SwapFits, exchange-levels, fitting, swapped-in, swapped-seen, swapped-written}
 
 -- ---- what the theorems say
 
@@ -52,7 +52,7 @@ pub record Cofactors (L L′ : ℕ → Node) (n x y r : ℕ) : Type 0 where
 
 -- ---- the theorems
 
-module _ {E : Edition} {t : List Node} {ord : List ℕ} {k : ℕ} (S : Swappable E t ord k) (roots : List ℕ) where
+module _ {E : Edition} {t : List Node} {ord : List ℕ} {k : ℕ} (S : SwapFits E t ord k) (roots : List ℕ) where
   abbrev x : ℕ
   x = xAt ord k
 
@@ -186,7 +186,7 @@ module _ {E : Edition} {t : List Node} {ord : List ℕ} {k : ℕ} (S : Swappable
 
 -- ---- the plain edition: what a root reads as
 
-module _ {t : List Node} {ord : List ℕ} {k : ℕ} (S : Swappable plain t ord k) (roots : List ℕ)
+module _ {t : List Node} {ord : List ℕ} {k : ℕ} (S : SwapFits plain t ord k) (roots : List ℕ)
     (D : Diagram Constant (look (at t)) (Rooted plain roots) (levelOf ord) (length ord)) where
   abbrev T′ : ℕ → Node
   T′ = look (at (swapped plain t (xAt ord k) (yAt ord k) roots))
