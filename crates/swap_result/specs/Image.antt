@@ -20,10 +20,10 @@ use Rattle.diagrams.specs.Edition.{plain}
 use Rattle.diagrams.specs.Layout.{recordSize, mostRecords, records, isFree}
 use Rattle.diagrams.specs.Node.{Node, free, at, ref}
 use Rattle.diagrams.specs.Decode.{nodeAt, decode, eight, encode}
-use Rattle.diagrams.specs.Lookup.{at-decode, rootsOf}
+use Rattle.diagrams.specs.Lookup.{length-decode, at-decode, rootsOf}
 use Rattle.diagrams.specs.Store.{storedAt, length-encode, stores-encode, stores-where}
 use Rattle.check_sizes.specs.Sizes.{Sized}
-use Rattle.swap_rules.specs.Swap.{slots, turn, filled, after, swapped}
+use Rattle.swap_rules.specs.Swap.{slotIndex, filled, recordAfter, swapped}
 use Rattle.swap_records.specs.Kinds.{ofAt, crossesAt}
 use Rattle.swap_records.specs.Listed.{FreeListed, Inside, inside-of}
 use Rattle.swap_records.specs.Pairs.{pairAt, pairs-at}
@@ -68,17 +68,17 @@ pub record Fillable (t r : List ℕ) (p : Pair) (crossing standing slots news ke
 pub record Filled (t r : List ℕ) (p : Pair) (image : List ℕ) : Type 0 where
   pub is : take (length t) image ≡ encode (swapped plain (decode t) (p .x .0) (p .y .0) (rootsOf r))
 
--- ---- a free record takes the new record whose turn it is
+-- ---- which of the slots a record is
 
 module _ (t : List ℕ) where
-  turn-free : (i : ℕ) → i < records t → isFree t i ≡ true → turn (at (decode t)) (records t) i ≡ count (isFree t) i
-  unfolding turn
-  turn-free i h e = rw (slots-which t) (which-index (isFree t) (records t) i h e)
+  index-free : (i : ℕ) → i < records t → isFree t i ≡ true → slotIndex (at (decode t)) (records t) i ≡ count (isFree t) i
+  unfolding slotIndex
+  index-free i h e = rw (slots-which t) (which-index (isFree t) (records t) i h e)
 
   -- a used one is none of the slots
-  turn-used : {list : List ℕ} {frees : ℕ} → FreeListed t list frees → (i : ℕ) → isFree t i ≡ false → turn (at (decode t)) (records t) i ≡ frees
-  unfolding turn
-  turn-used F i e = rw (slots-which t) (which-absent (isFree t) (records t) i e ∙ length-entries F)
+  index-used : {list : List ℕ} {frees : ℕ} → FreeListed t list frees → (i : ℕ) → isFree t i ≡ false → slotIndex (at (decode t)) (records t) i ≡ frees
+  unfolding slotIndex
+  index-used F i e = rw (slots-which t) (which-absent (isFree t) (records t) i e ∙ length-entries F)
 
 -- free record i is among the first n
 abbrev taken : List ℕ → ℕ → ℕ → Bool
@@ -132,25 +132,25 @@ module _ {t : List ℕ} {p : Pair} {crossing standing slots news kept : List ℕ
     unfolding filled
     taken-is = rw (← needed-is R) (go (by (isFree t i)))
       where
-        go : (isFree t i ≡ true) ⊎ (isFree t i ≡ false) → taken t (q .needed) i ≡ ltb (turn (at (decode t)) (records t) i) (q .needed)
-        go (inl e) = rw (e, turn-free t i h e)
-        go (inr e) = rw (e, turn-used t (R .sorted .sources .slots-are) i e) (sym (le-ltb _ _ fit))
+        go : (isFree t i ≡ true) ⊎ (isFree t i ≡ false) → taken t (q .needed) i ≡ ltb (slotIndex (at (decode t)) (records t) i) (q .needed)
+        go (inl e) = rw (e, index-free t i h e)
+        go (inr e) = rw (e, index-used t (R .sorted .sources .slots-are) i e) (sym (le-ltb _ _ fit))
 
-    new-is : taken t (q .needed) i ≡ true → pairAt x news (count (isFree t) i) ≡ getD (newsIn t x y) (turn (at (decode t)) (records t) i) free
+    new-is : taken t (q .needed) i ≡ true → pairAt x news (count (isFree t) i) ≡ getD (newsIn t x y) (slotIndex (at (decode t)) (records t) i) free
     new-is e =
         sym (pairs-at x news (q .needed) (count (isFree t) i) (ltb-true _ _ (and-right (isFree t i) _ e)))
-        ∙ ap₂ (λ (l : List Node) (j : ℕ). getD l j free) (R .news-are) (sym (turn-free t i h (and-left _ _ e)))
+        ∙ ap₂ (λ (l : List Node) (j : ℕ). getD l j free) (R .news-are) (sym (index-free t i h (and-left _ _ e)))
 
     other-is : (u : Bool) → taken t (q .needed) i ≡ u
         → cond u (pairAt x news (count (isFree t) i)) (stayingAt t y names i)
-        ≡ cond u (getD (newsIn t x y) (turn (at (decode t)) (records t) i) free) (cond (diesIn t r p i) free (at (decode t) i))
+        ≡ cond u (getD (newsIn t x y) (slotIndex (at (decode t)) (records t) i) free) (cond (diesIn t r p i) free (at (decode t) i))
     unfolding stayingAt
     other-is true e = new-is e
     other-is false e = ap₂ (λ (b : Bool) (m : Node). cond b free m) (C .tell i h) (sym (at-decode t i h))
 
     after-is : cond (crossesAt t x y i) (becomesIn t x y (ref i)) (cond (taken t (q .needed) i) (pairAt x news (count (isFree t) i)) (stayingAt t y names i))
-        ≡ after plain (at (decode t)) (records t) x y (rootsOf r) i
-    unfolding after
+        ≡ recordAfter plain (at (decode t)) (records t) x y (rootsOf r) i
+    unfolding recordAfter
     after-is = ap (cond (crossesAt t x y i) (becomesIn t x y (ref i))) (rw (← taken-is) (other-is (taken t (q .needed) i) refl))
 
 -- ---- the image as it is filled
@@ -167,10 +167,6 @@ module _ {t r : List ℕ} {p : Pair} {crossing standing slots news kept : List �
   crossing-inside same₂ =
       let s : Inside t crossing (q .crossing) = inside-of (F .reckoned .sorted .crossing-are) in
       record { room = s .room; at = λ k h. omega (arith, s .at k h, F .long) }
-
-length-decode : (t : List ℕ) → length (decode t) ≡ records t
-unfolding decode
-length-decode t = length-tabulate (records t) (nodeAt t)
 
 module _ {t r : List ℕ} {p : Pair} {crossing standing slots news kept : List ℕ} {q : Counts} {image : List ℕ}
     (F : Fillable t r p crossing standing slots news kept q image) {names : List ℕ} (C : Counted t r p names)
@@ -195,7 +191,7 @@ module _ {t r : List ℕ} {p : Pair} {crossing standing slots news kept : List �
       ∙ crossed-row (F .reckoned) rest _
       ∙ ap (λ l. encode l ++ rest)
       (tabulate-agrees (records t) _ _ (after-is (F .reckoned) rest r names C (F .fit))
-      ∙ ap (λ n. tabulate n (after plain (at (decode t)) n (p .x .0) (p .y .0) (rootsOf r))) (sym (length-decode t)))
+      ∙ ap (λ n. tabulate n (recordAfter plain (at (decode t)) n (p .x .0) (p .y .0) (rootsOf r))) (sym (length-decode t)))
 
   pub image-filled : Filled t r p l₃
   unfolding nodes swapped

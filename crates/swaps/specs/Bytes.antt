@@ -8,7 +8,6 @@ use mathlib.Core.Path.{_≡_, refl, ap, sym, _∙_}
 use lib.ListN.{length, getD, take, drop, List·getD-eq-default}
 use Rattle.lists.specs.Says.{Says, either-side}
 use Rattle.lists.specs.Total.{count-agrees}
-use Rattle.lists.specs.Tabulate.{length-tabulate}
 use Rattle.orders.specs.Permutation.{Permutation, levelOf, inside-level}
 use Rattle.orders.specs.Exchange.{exchange, length-exchange, exchange-permutation}
 use Rattle.diagrams.specs.Layout.{recordSize, mostRecords, records, rootCount, variableAt, lowAt, highAt, isFree, isUsed, rootAt}
@@ -16,7 +15,7 @@ use Rattle.diagrams.specs.Node.{Node, free, node, Constant, at, ref, two-more, 
 use Rattle.diagrams.specs.Decode.{Used, nodeAt, decode, eight, WellLaid, encode-decode}
 use Rattle.diagrams.specs.Store.{length-encode}
 use Rattle.diagrams.specs.Encode.{Small, AllSmall, decode-encode, encode-laid, take-record}
-use Rattle.diagrams.specs.Lookup.{rootsOf, lookup, at-decode, node-of, length-roots, root-is}
+use Rattle.diagrams.specs.Lookup.{length-decode, rootsOf, lookup, at-decode, node-of, length-roots, root-is}
 use Rattle.diagrams.specs.Bryant.{Among, Vertex}
 use Rattle.diagrams.specs.Levels.{free-node}
 use Rattle.diagrams.specs.Diagram.{Named, Diagram}
@@ -35,10 +34,6 @@ use Rattle.swap_rules.specs.Theorem.{Cofactors, swap-diagram, swap-bryant, swap
 use Rattle.swaps.specs.Outcome.{neededIn, fitsIn, dyingIn, tableAfter}
 
 -- ---- as many records as before
-
-pub length-decode : (t : List ℕ) → length (decode t) ≡ records t
-unfolding decode
-length-decode t = length-tabulate (records t) (nodeAt t)
 
 module _ (t r : List ℕ) (x y : ℕ) where
   bytes-of : length (tableAfter t r x y) ≡ recordSize * records t
