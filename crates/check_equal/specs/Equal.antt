@@ -1,4 +1,5 @@
 -- Check 6: record i is used, and its low and high reference are the same.
+-- docs/RULES.md, 2.2.
 use Prim.Native.Nat.{ℕ}
 use mathlib.Core.Bool.{Bool, _&&_}
 use mathlib.Core.List.{List}

@@ -1,4 +1,5 @@
 -- Check 5: record i is used, and a record that it names is not strictly below it in the order. `level` is the level of each variable.
+-- docs/RULES.md, 2.2.
 use Prim.Native.Nat.{ℕ, _-_, _≤_, _<_}
 use mathlib.Core.Bool.{Bool, _&&_, _||_}
 use mathlib.Core.List.{List}

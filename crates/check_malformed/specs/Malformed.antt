@@ -1,5 +1,6 @@
 -- Check 4: record i is malformed. A byte that every record has zero is not zero; or it is free and has a reference that is not zero;
 -- or it is used and has a variable that is none of the n, or a reference past the table or to a free record.
+-- docs/RULES.md, 2.2.
 use Prim.Native.Nat.{ℕ, _≤_}
 use mathlib.Core.Bool.{Bool, not, _&&_, _||_}
 use mathlib.Core.List.{List}

@@ -1,4 +1,5 @@
 -- Check 9: record i is used, and no root and no used record names it.
+-- docs/RULES.md, 2.2.
 use Prim.Native.Nat.{ℕ, _+_}
 use mathlib.Core.Bool.{Bool, not, _&&_, _||_}
 use mathlib.Core.List.{List}

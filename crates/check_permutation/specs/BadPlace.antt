@@ -1,4 +1,5 @@
 -- A bad position of an order, and that an order without one is a permutation, and back.
+-- docs/RULES.md, 2.2, checks 2 and 3.
 use Prim.Native.Nat.{ℕ, _≤_}
 use mathlib.Core.Bool.{Bool, _||_}
 use mathlib.Core.List.{List}

@@ -1,4 +1,5 @@
 -- Check 7: record i is used, and some earlier record has its variable, its low and its high.
+-- docs/RULES.md, 2.2.
 use Prim.Native.Nat.{ℕ}
 use mathlib.Core.Bool.{Bool, _&&_}
 use mathlib.Core.List.{List}

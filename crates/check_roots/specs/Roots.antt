@@ -1,4 +1,5 @@
 -- Check 8: root k is past the table or to a free record.
+-- docs/RULES.md, 2.2.
 use Prim.Native.Nat.{ℕ}
 use mathlib.Core.Bool.{Bool}
 use mathlib.Core.List.{List}

@@ -1,4 +1,5 @@
 -- Check 1: there are 1 to 32 variables, whole records and at most 4,096 of them, whole roots and at most 64 of them.
+-- docs/RULES.md, 2.2.
 use Prim.Native.Nat.{ℕ, _*_, _%_, _≤_, _<_}
 use mathlib.Core.Bool.{Bool, false, not, _||_}
 use mathlib.Core.List.{List}

@@ -1,4 +1,5 @@
 -- What a reference names: a constant, a record of the table, used or free, or nothing.
+-- docs/RULES.md, 1.2.
 use Prim.Native.Nat.{ℕ, _-_, _≤_, _<_}
 use mathlib.Core.Bool.{Bool, true, false, not, _&&_, _||_}
 use mathlib.Core.List.{List}

@@ -1,4 +1,5 @@
 -- The listing of a store as a list of bytes: a line for the order, a line for each record, a line for the roots.
+-- docs/RULES.md, 7.2.
 use Prim.Native.Nat.{ℕ}
 use mathlib.Core.Bool.{cond}
 use mathlib.Core.List.{List, _++_}

@@ -1,4 +1,5 @@
 -- The program, as a function of the bytes of its four files.
+-- docs/RULES.md, 7.
 use Prim.Native.Nat.{ℕ, _+_, _*_, _≤_}
 use mathlib.Core.List.{List}
 use lib.ListN.{length}

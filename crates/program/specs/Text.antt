@@ -1,4 +1,5 @@
 -- What is printed of a run: a line for its answer, and the listing of the store that it left.
+-- docs/RULES.md, 7.2.
 use Prim.Native.Nat.{ℕ}
 use mathlib.Core.Bool.{Bool, true, false, cond}
 use mathlib.Core.List.{List, [], _++_}

@@ -1,4 +1,5 @@
 -- Read: the value of a root under inputs, or the refusal of the first check that fails: those of Check, then 10 and 11.
+-- docs/RULES.md, 2.2 and 3.
 use Prim.Native.Nat.{ℕ}
 use mathlib.Core.Bool.{Bool, not, _||_}
 use mathlib.Core.List.{List, [], _∷_, _++_}
@@ -50,7 +51,7 @@ readOf t r o position inputs = readAfter (verdictOf (readStages t r o position i
 abbrev pub ReadOutcome : List ℕ → List ℕ → List ℕ → ℕ → List ℕ → ReadAnswer → Type 0
 ReadOutcome t r o position inputs a = a ≡ readOf t r o position inputs
 
--- the paper's number and values of each answer; 0 stands for a value
+-- the numbers of each answer: 0 stands for a value
 abbrev pub numbers : ReadAnswer → List ℕ
 numbers (Value b) = 0 ∷ b ∷ []
 numbers (Refused w) = w .number ∷ w .place ∷ []

@@ -1,5 +1,6 @@
 -- Show: the part of the caller's own table that is the record of a root; an empty part where the table is refused, there is no such root,
 -- or the root is a constant.
+-- docs/RULES.md, 3.
 use Prim.Native.Nat.{ℕ, _+_, _-_, _*_, _≤_}
 use mathlib.Core.Bool.{Bool, true, false, cond, _&&_}
 use mathlib.Core.List.{List, [], _∷_, _++_}

@@ -1,4 +1,5 @@
 -- The outcome of each call: what it writes to the lent list and returns, and what it leaves in the buffers that it may change.
+-- docs/RULES.md, 6.
 use Prim.Native.Nat.{ℕ}
 use mathlib.Core.List.{List}
 use mathlib.Core.Path.{_≡_}

@@ -1,5 +1,6 @@
 -- A slice makes planned swaps until the order is the target, something stands in the way of the next one, or the budget is spent. Its answer is
 -- judged on the state that is left. All of it over any state with an order, whatever may stand in a swap's way, and any plan.
+-- docs/RULES.md, 5.3 and 5.4.
 use Prim.Native.Nat.{ℕ, zero, suc, _+_, _-_, _≤_, _<_, zero-le, suc-le-suc}
 use mathlib.Core.Bool.{Bool, true, false, cond, not, _&&_}
 use mathlib.Core.List.{List, [], _∷_, foldr}

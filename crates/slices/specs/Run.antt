@@ -1,5 +1,6 @@
 -- Run: one slice towards the target with a budget. It is done, or without room, or paused, or refused with 1 to 9. The whole outcome, over the bytes, by any
 -- plan and for any edition of the table.
+-- docs/RULES.md, 3 and 5.
 use Prim.Native.Nat.{ℕ, _≤_}
 use mathlib.Core.Bool.{Bool, true, false, not, _||_}
 use mathlib.Core.List.{List, [], _∷_}

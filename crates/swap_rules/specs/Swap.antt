@@ -1,4 +1,4 @@
--- One swap of the levels k and k + 1, by the steps of document 01, "One swap": what becomes of each record, read wholly from the table before.
+-- One swap of the levels k and k + 1: what becomes of each record, read wholly from the table before. docs/RULES.md, 4; sections are cited below.
 -- E is the edition of the table. In the plain edition its words say nothing new: `seen E T r` is the record that r names, `look T r`;
 -- `oneRecord E q r` asks whether q is r; `normal E w` is w; and `invert E (E .inverted b) r` is r (`plain-words`).
 use Prim.Native.Nat.{ℕ, _+_}
@@ -30,7 +30,7 @@ yAt ord k = getD ord (k + 1) 0
 
 module _ (L : ℕ → Node) where
   module _ (y : ℕ) where
-    -- the grandchild through the child c: the low (false) or high (true) reference of a y record; any other c is both of its grandchildren
+    -- 4.2: the grandchild through the child c: the low (false) or high (true) reference of a y record; any other c is both of its grandchildren
     unfoldable pub grandchild : Bool → ℕ → ℕ
     grandchild side c = cond (isOf y (L c)) (pick side (lowOf (L c)) (highOf (L c))) c
 
@@ -48,7 +48,7 @@ module _ (L : ℕ → Node) where
     f11 r = grandchild true (highOf (L r))
 
   module _ (x y : ℕ) where
-    -- an x record crosses where its low or its high child, or both, is a y record
+    -- 4.1: an x record crosses where its low or its high child, or both, is a y record
     unfoldable pub crosses : ℕ → Bool
     crosses r = isOf x (L r) && (isOf y (L (lowOf (L r))) || isOf y (L (highOf (L r))))
 
@@ -86,7 +86,7 @@ module _ (E : Edition) (T : ℕ → Node) (x y : ℕ) where
   stillNames r j = isUsedNode (T j) && not (crossing j) && (oneRecord E (lowOf (T j)) r || oneRecord E (highOf (T j)) r)
 
 module _ (T : ℕ → Node) (N : ℕ) where
-  -- where new records go, one after the other: the records that were free before the swap, lowest number first.
+  -- 4.3, case 4: where new records go, one after the other: the records that were free before the swap, lowest number first.
   -- What dies in this swap is none of them; the next swap finds it free
   unfoldable pub slots : List ℕ
   slots = which (λ i. isFreeNode (T i)) N
@@ -108,7 +108,7 @@ module _ (E : Edition) (T : ℕ → Node) (N x y : ℕ) where
   unfoldable pub isNew : Node → Bool
   isNew w = not (eqb (lowOf w) (highOf w)) && not (any (stands E T x y w) N)
 
-  -- all that is asked for: by the crossing records in rising record number, by each low before high
+  -- 4.3: all that is asked for: by the crossing records in rising record number, by each low before high
   unfoldable pub wanted : List Node
   wanted = each (bothAsked E T x y) (which (crossing E T x y) N)
 
@@ -124,20 +124,20 @@ module _ (E : Edition) (T : ℕ → Node) (N x y : ℕ) where
   abbrev pub placed : Node → ℕ
   placed w = cond (any (stands E T x y w) N) (first (stands E T x y w) N) (slotOf w)
 
-  -- X(a, b): a itself where b is the same; otherwise the reference of the x record with low a and high b.
+  -- 4.3: X(a, b): a itself where b is the same; otherwise the reference of the x record with low a and high b.
   -- Where b is inverted, that record has the opposites of both, and so X(a, b) is the opposite of its reference
   unfoldable pub X : ℕ → ℕ → ℕ
   X a b = cond (eqb a b) a (invert E (E .inverted b) (ref (placed (normal E (node x a b)))))
 
-  -- what a crossing record becomes: the y record with low X(f00, f10) and high X(f01, f11)
+  -- 4.3: what a crossing record becomes: the y record with low X(f00, f10) and high X(f01, f11)
   unfoldable pub becomes : ℕ → Node
   becomes r = node y (X (f00 (seen E T) y r) (f10 (seen E T) y r)) (X (f01 (seen E T) y r) (f11 (seen E T) y r))
 
-  -- needed: how many new records the swap makes
+  -- 4.4: needed: how many new records the swap makes
   unfoldable pub needed : ℕ
   needed = length news
 
-  -- there is room exactly where needed is not above free
+  -- 4.4: there is room exactly where needed is not above free
   unfoldable pub fits : Bool
   fits = leb needed (freeCount T N)
 
@@ -146,7 +146,7 @@ module _ (E : Edition) (T : ℕ → Node) (N x y : ℕ) where
   filled i = ltb (slotIndex T N i) needed
 
   module _ (roots : List ℕ) where
-    -- the y record of r dies: no root names it, and no record that keeps its references. Crossed and new records name no y record
+    -- 4.5: the y record of r dies: no root names it, and no record that keeps its references. Crossed and new records name no y record
     -- from before, so that afterwards nothing at all names it (`dies-exactly` of Theorem)
     unfoldable pub dies : ℕ → Bool
     dies r = isOf y (seen E T r) && not (any (λ k. oneRecord E (getD roots k 0) r) (length roots)) && not (any (stillNames E T x y r) N)
@@ -155,7 +155,7 @@ module _ (E : Edition) (T : ℕ → Node) (N x y : ℕ) where
     unfoldable pub dyingCount : ℕ
     dyingCount = count (λ i. dies (ref i)) N
 
-    -- record i afterwards: a crossing one keeps its number, a slot holds its new record, what dies is free, and any other is as it was
+    -- 4.3 to 4.6: record i afterwards: a crossing one keeps its number, a slot holds its new record, what dies is free, and any other is as it was
     unfoldable pub recordAfter : ℕ → Node
     recordAfter i = cond (crossing E T x y i) (becomes (ref i)) (cond (filled i) (getD news (slotIndex T N i) free) (cond (dies (ref i)) free (T i)))
 

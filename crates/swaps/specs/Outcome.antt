@@ -1,4 +1,5 @@
 -- Swap levels k and k + 1: made, no room (level, needed, free), or refused with 1, 2, 4 to 9 or 12. The whole outcome, over the bytes.
+-- docs/RULES.md, 3 and 4.
 use Prim.Native.Nat.{ℕ, _-_}
 use mathlib.Core.Bool.{Bool, true, false, cond}
 use mathlib.Core.List.{List, [], _∷_, _++_}
