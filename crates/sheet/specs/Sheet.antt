@@ -13,23 +13,12 @@ use Rattle.lists.specs.Once.{once}
 use Rattle.diagrams.specs.Node.{Node, free, node, look}
 use Rattle.diagrams.specs.Decode.{nodeAt, decode, eight, encode}
 use Rattle.diagrams.specs.Lookup.{rootsOf}
-use Rattle.orders.specs.Permutation.{holdsAt, levelOf}
-use Rattle.check_permutation.specs.BadPlace.{badPlace}
 use Rattle.orders.specs.Exchange.{exchange}
 use Rattle.plans.specs.Inversions.{inverted, left}
 use Rattle.plans.specs.Plans.{differsAt, same?}
 use Rattle.plans.specs.BringUp.{bringUp, firstDifference}
-use Rattle.check_sizes.specs.Sizes.{badSizes}
-use Rattle.diagrams.specs.References.{namesRecord, dead}
-use Rattle.check_malformed.specs.Malformed.{malformed}
-use Rattle.check_levels.specs.Levels.{notUnder, notBelow}
-use Rattle.check_equal.specs.Equal.{lowIsHigh}
-use Rattle.check_repeats.specs.Repeats.{sameRecord, repeats}
-use Rattle.check_roots.specs.Roots.{deadRoot}
-use Rattle.diagrams.specs.Noting.{rootNames, recordNames}
-use Rattle.check_names.specs.Names.{idle}
-use Rattle.checks.specs.Stages.{only, verdictFrom}
-use Rattle.checks.specs.Check.{tableStages, used}
+use Rattle.checks.specs.Opened.{openedStages}
+use Rattle.checks.specs.Check.{used}
 use Rattle.swap_rules.specs.Record.{lowOf, highOf, isFreeNode, isOf, same}
 use Rattle.swap_rules.specs.Swap.{xAt, yAt, grandchild, f00, f01, f10, f11, crosses, asked, stands, isNew, wanted, news, stillNames, dies, slots, slotOf}
 use Rattle.swap_rules.specs.Swap.{X, becomes, needed, freeCount, fits, slotIndex, filled, recordAfter, swapped}
@@ -70,11 +59,10 @@ rootBytes (x ∷ s) = x % 256 ∷ x / 256 ∷ rootBytes s
 
 -- what the run gives, by the definition in its contract; `unfolding outcome` opens all that a run is computed with
 unfoldable pub outcome : Row → Outcome
-unfolding nodeAt decode eight encode rootsOf runOf runStages badRunSizes badSizes only verdictFrom holdsAt badPlace levelOf tableStages dead malformed
-    notUnder notBelow lowIsHigh sameRecord repeats deadRoot rootNames recordNames idle ranTo answerOf relay slice leaves over.judge made goes next arrived
-    same? differsAt bringUp firstDifference exchange left inverted pairs total first count tabulate keep once each which look lowOf highOf isFreeNode isOf same
-    grandchild f00 f01 f10 f11 crosses asked stands isNew wanted news stillNames dies slots slotOf X becomes needed freeCount fits slotIndex filled recordAfter
-    swapped wayOf tableAfter namesRecord
+unfolding nodeAt decode eight encode rootsOf runOf runStages badRunSizes openedStages ranTo answerOf relay slice leaves over.judge made goes next arrived
+    same? differsAt bringUp firstDifference exchange left inverted pairs total first count tabulate keep once each which look lowOf highOf isFreeNode isOf
+    same grandchild f00 f01 f10 f11 crosses asked stands isNew wanted news stillNames dies slots slotOf X becomes needed freeCount fits slotIndex filled
+    recordAfter swapped wayOf tableAfter
 outcome row =
     let g = row .given in
     let k = bringUp (g .order) (g .target) in

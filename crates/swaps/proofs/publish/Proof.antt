@@ -8,7 +8,9 @@ use Rattle.swaps.proofs.Entry.{published}
 use Rattle.swaps.proofs.publish.Statement.{statement}
 use Rattle.swaps.proofs.publish.Tie as tie
 
-again : tie.Need-loop-again (λ table₀ image m i₀ table i. Steps (copied image) table₀ m i table × (length table ≡ length table₀)) (λ table₀ image m i₀ table i. m - i)
+again : tie.Need-loop-again
+    (λ table₀ image m i₀ table i. Steps (copied image) table₀ m i table × (length table ≡ length table₀))
+    (λ table₀ image m i₀ table i. m - i)
 unfolding copied
 again c = (steps-go (c .before .before .loop .inv .0) (omega arith) refl, search steps)
 
