@@ -38,6 +38,10 @@ pub record TurnRoom (news kept : List ℕ) : Type 0 where
   pub news-long : length news ≡ 4 * mostRecords
   pub kept-long : length kept ≡ 2 * mostRecords
 
+pub record WorkRoom (t crossing standing slots news kept : List ℕ) : Type 0 where
+  pub sort-room : SortRoom t crossing standing slots
+  pub turn-room : TurnRoom news kept
+
 -- where X(a, b) is looked for: the standing records, and the slots for new ones
 pub record Sources (t : List ℕ) (p : Pair) (standing slots : List ℕ) (q : Counts) : Type 0 where
   pub few : records t ≤ mostRecords

@@ -3,7 +3,7 @@
 
 ghost use mathlib.Core.Path.{_≡_};
 ghost use Rattle.swap_reckoning.specs.Searching.{withNeeded};
-ghost use Rattle.swap_reckoning.specs.Reckoned.{SortRoom, TurnRoom, Sorted, Reckoned};
+ghost use Rattle.swap_reckoning.specs.Reckoned.{SortRoom, WorkRoom, Sorted, Reckoned};
 use swap_records::Pair;
 use swap_records::collect;
 
@@ -62,7 +62,7 @@ pub fn reckon(
     news: &mut [u16],
     kept: &mut [u16],
 ) -> Counts
-    requires { ⌜ SortRoom (now table) (now crossing) (now standing) (now slots) × TurnRoom (now news) (now kept) ⌝ }
+    requires { ⌜ WorkRoom (now table) (now crossing) (now standing) (now slots) (now news) (now kept) ⌝ }
     ensures { λ q. ⌜ Reckoned (table .entry .now) pair (crossing .exit .now) (standing .exit .now) (slots .exit .now) (news .exit .now) (kept .exit .now) q ⌝ }
 {
     let start = sort_records(table, pair, crossing, standing, slots);

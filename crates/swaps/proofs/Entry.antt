@@ -1,26 +1,23 @@
 -- What the reckoning, the image and the table hold at each way out, over plain variables.
 use Prim.Native.Nat.{ℕ, _*_, _≤_, _<_}
-use mathlib.Core.Bool.{true, false, cond}
+use mathlib.Core.Bool.{Bool, true, false, cond}
 use mathlib.Core.List.{List, _++_, append-nil}
 use mathlib.Core.Path.{_≡_, refl, ap, ap₂, sym, _∙_}
 use native.Mathlib.Nat.{le-refl}
 use native.Mathlib.Omega.{arith}
-use borrow.Author.Needs.{needs}
 use borrow.Author.Tests.{leb-true, le-leb, lt-leb}
 use lib.Dec.{leb}
 use lib.ListN.{length, take, drop-of-length-le}
 use Rattle.lists.specs.Apart.{apart}
 use Rattle.lists.specs.Copy.{copied, copied-first}
 use Rattle.lists.specs.Fold.{Steps, steps-end}
-use Rattle.diagrams.specs.Layout.{recordSize, mostRecords, records}
-use Rattle.check_sizes.specs.Sizes.{Sized}
-use Rattle.swap_rules.specs.Swap.{xAt, yAt, fits}
+use Rattle.swap_rules.specs.Swap.{fits}
 use Rattle.swap_records.specs.declared.Pair.{Pair}
-use Rattle.swap_reckoning.specs.Reckoned.{SortRoom, TurnRoom, Reckoned, needed-is, free-is}
+use Rattle.swap_reckoning.specs.Reckoned.{Reckoned, needed-is, free-is}
 use Rattle.swap_reckoning.specs.declared.Counts.{Counts}
 use Rattle.swap_result.specs.Image.{Fillable, Filled}
-use Rattle.swaps.specs.Outcome.{lack, wayOf, isClear, tableAfter, TableSwapped}
-use Rattle.swaps.specs.Work.{PairAt, wayBy, Preparing, Prepared}
+use Rattle.swaps.specs.Outcome.{lack, wayOf, tableAfter, TableSwapped}
+use Rattle.swaps.specs.Work.{PairAt, CountsOf, wayBy, Preparing, Prepared}
 use Rattle.swaps.specs.declared.Lack.{Lack}
 use Rattle.swaps.specs.declared.Way.{Way}
 use Rattle.swaps.specs.declared.Way.the-variants as way
@@ -36,39 +33,41 @@ module _ (k : ℕ) (q : Counts) where
   unfolding wayBy
   way-clears h = rw (le-leb (q .needed) (q .free) h)
 
-  fit-by : {w : Way} → w ≡ wayBy k q → w ≡ way.Clear → q .needed ≤ q .free
+  fit-by : way.Clear ≡ wayBy k q → q .needed ≤ q .free
   unfolding wayBy
-  fit-by e c = leb-true (q .needed) (q .free) (go (leb (q .needed) (q .free)) (sym c ∙ e))
+  fit-by e = leb-true (q .needed) (q .free) (go (leb (q .needed) (q .free)) e)
     where
-      go : (b : _) → way.Clear ≡ cond b way.Clear (way.NoRoom (lack k (q .needed) (q .free))) → b ≡ true
+      go : (b : Bool) → way.Clear ≡ cond b way.Clear (way.NoRoom (lack k (q .needed) (q .free))) → b ≡ true
       go true z = refl
       go false z = apart (cc)
 
--- ---- the reckoning
+pub asked : {t o : List ℕ} {k : ℕ} {p : Pair} {q : Counts} {w : Way} → PairAt o k p → CountsOf t p q → w ≡ wayBy k q → w ≡ wayOf t o k
+unfolding wayBy wayOf fits
+asked P C e = e ∙ rw (C .needed-is, C .free-is, P .is-x, P .is-y)
 
-module _ {t : List ℕ} {p : Pair} {crossing standing slots news kept : List ℕ} {q : Counts} (R : Reckoned t p crossing standing slots news kept q)
-    {o : List ℕ} {k : ℕ} (P : PairAt o k p) {w : Way} (by : w ≡ wayBy k q) where
-  pub asked : w ≡ wayOf t o k
-  unfolding wayBy wayOf fits
-  asked = by ∙ rw (needed-is R, free-is R, P .is-x, P .is-y)
+-- ---- the reckoning, and the image
 
-  pub lacking : {r image : List ℕ} {l : Lack} → w ≡ way.NoRoom l → Prepared t r o k (way.NoRoom l) image
-  lacking e = record { answer = sym e ∙ asked; table = λ z. apart (cc) }
+module _ {t : List ℕ} {p : Pair} {crossing standing slots news kept : List ℕ} {q : Counts} (R : Reckoned t p crossing standing slots news kept q) where
+  pub counts-of : CountsOf t p q
+  counts-of = record { needed-is = needed-is R; free-is = free-is R }
 
-  module _ (clear : w ≡ way.Clear) where
-    pub fillable : {r image : List ℕ} → Preparing t r k image → Fillable t r p crossing standing slots news kept q image
-    fillable a = record {
+  module _ {r image : List ℕ} where
+    pub fillable : Preparing t r p image → q .needed ≤ q .free → Fillable t r p crossing standing slots news kept q image
+    fillable a h = record {
       sized = a .sized;
-      small-x = P .small-x;
-      small-y = P .small-y;
+      small-x = a .small-x;
+      small-y = a .small-y;
       reckoned = R;
-      fit = fit-by k q by clear;
+      fit = h;
       long = omega (arith, a .long, a .sized .few-records);
     }
 
-    pub prepared : {r image : List ℕ} → Filled t r p image → Prepared t r o k way.Clear image
+    pub prepared : Filled t r p image → Prepared t r p q image
     unfolding tableAfter
-    prepared f = record { answer = sym clear ∙ asked; table = λ z. f .is ∙ rw (P .is-x, P .is-y) }
+    prepared f = record { counts = counts-of; table = λ h. f .is }
+
+    pub unprepared : q .free < q .needed → Prepared t r p q image
+    unprepared l = record { counts = counts-of; table = λ h. absurd (omega arith) }
 
 -- ---- the table
 
@@ -79,11 +78,12 @@ published table image s e h =
     ∙ ap (λ d. take (length table) image ++ d) (drop-of-length-le table {i = length table} (le-refl (length table)))
     ∙ append-nil (take (length table) image)
 
-module _ {t r o : List ℕ} {k : ℕ} {w : Way} {image : List ℕ} (P : Prepared t r o k w image) where
+module _ {t r o : List ℕ} {k : ℕ} {p : Pair} (P : PairAt o k p) {q : Counts} {image : List ℕ} (A : Prepared t r p q image) {w : Way} (by : w ≡ wayBy k q) where
   pub not-swapped : {l : Lack} → w ≡ way.NoRoom l → TableSwapped t r o k (way.NoRoom l) t
-  not-swapped e = record { answer = sym e ∙ P .answer; table = refl }
+  not-swapped e = record { answer = sym e ∙ asked P (A .counts) by; table = refl }
 
   pub table-swapped : {t′ : List ℕ} → w ≡ way.Clear → t′ ≡ take (length t) image → TableSwapped t r o k way.Clear t′
-  table-swapped e s = record { answer = sym e ∙ P .answer; table = s ∙ P .table e }
-
-pub ruleset preparing = (asked, lacking, fillable, prepared, needs)
+  table-swapped e s = record {
+    answer = sym e ∙ asked P (A .counts) by;
+    table = s ∙ A .table (fit-by k q (sym e ∙ by)) ∙ ap₂ (tableAfter t r) (P .is-x) (P .is-y);
+  }

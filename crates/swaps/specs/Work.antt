@@ -12,15 +12,12 @@ use Rattle.checks.specs.Usable.{Usable}
 use Rattle.swap_rules.specs.Swap.{xAt, yAt}
 use Rattle.swap_records.specs.declared.Pair.{Pair}
 use Rattle.swap_reckoning.specs.declared.Counts.{Counts}
-use Rattle.swaps.specs.Outcome.{lack, wayOf, tableAfter, swapAfter}
+use Rattle.swaps.specs.Outcome.{neededIn, freeIn, lack, wayOf, tableAfter, swapAfter}
 use Rattle.swaps.specs.declared.Way.{Way}
 use Rattle.swaps.specs.declared.Way.the-variants as way
 use Rattle.swaps.specs.declared.SwapAnswer.{SwapAnswer}
 
--- ---- what stands in the way, by the counts of the reckoning
-
-unfoldable pub wayBy : ℕ → Counts → Way
-wayBy k q = cond (leb (q .needed) (q .free)) way.Clear (way.NoRoom (lack k (q .needed) (q .free)))
+-- ---- what stands in the way of a swap of two variables
 
 -- the variables of levels k and k + 1
 pub record PairAt (o : List ℕ) (k : ℕ) (p : Pair) : Type 0 where
@@ -29,22 +26,32 @@ pub record PairAt (o : List ℕ) (k : ℕ) (p : Pair) : Type 0 where
   pub small-x : p .x .0 < 256
   pub small-y : p .y .0 < 256
 
+-- the reckoning counts what the swap needs, and what is free
+pub record CountsOf (t : List ℕ) (p : Pair) (q : Counts) : Type 0 where
+  pub needed-is : q .needed ≡ neededIn t (p .x .0) (p .y .0)
+  pub free-is : q .free ≡ freeIn t
+
+-- no room where needed is above free
+unfoldable pub wayBy : ℕ → Counts → Way
+wayBy k q = cond (leb (q .needed) (q .free)) way.Clear (way.NoRoom (lack k (q .needed) (q .free)))
+
 -- what asking for a swap of levels k and k + 1 takes
 pub record Asking (t : List ℕ) (k : ℕ) : Type 0 where
   pub few-records : length t ≤ recordSize * mostRecords
   pub whole-records : length t % recordSize ≡ 0
   pub level : k + 1 < ceiling
 
--- what preparing it takes: room for the table in the image
-pub record Preparing (t r : List ℕ) (k : ℕ) (image : List ℕ) : Type 0 where
+-- what filling the image of a table takes
+pub record Preparing (t r : List ℕ) (p : Pair) (image : List ℕ) : Type 0 where
   pub sized : Sized t r
-  pub level : k + 1 < ceiling
+  pub small-x : p .x .0 < 256
+  pub small-y : p .y .0 < 256
   pub long : length image ≡ recordSize * mostRecords
 
--- the front of the image is the table afterwards, if nothing stands in the way
-pub record Prepared (t r o : List ℕ) (k : ℕ) (w : Way) (image : List ℕ) : Type 0 where
-  pub answer : w ≡ wayOf t o k
-  pub table : w ≡ way.Clear → take (length t) image ≡ tableAfter t r (xAt o k) (yAt o k)
+-- where there is room, the front of the image is the table afterwards
+pub record Prepared (t r : List ℕ) (p : Pair) (q : Counts) (image : List ℕ) : Type 0 where
+  pub counts : CountsOf t p q
+  pub table : q .needed ≤ q .free → take (length t) image ≡ tableAfter t r (p .x .0) (p .y .0)
 
 -- ---- the entry
 

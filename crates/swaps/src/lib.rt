@@ -3,12 +3,13 @@
 ghost use mathlib.Core.Path.{_≡_};
 ghost use Prim.Native.Nat.{_+_, _*_, _%_, _≤_, _<_};
 ghost use lib.ListN.{length, take};
-ghost use Rattle.diagrams.specs.Layout.{mostRecords, recordSize};
+ghost use Rattle.diagrams.specs.Layout.{mostRecords, records};
 ghost use Rattle.check_sizes.specs.Sizes.{Sized};
 ghost use Rattle.orders.specs.Permutation.{ceiling};
 ghost use Rattle.checks.specs.Stages.{verdictOf};
+ghost use Rattle.swap_reckoning.specs.Reckoned.{WorkRoom};
 ghost use Rattle.swaps.specs.Outcome.{wayOf, TableSwapped, swapStages, SwapOutcome};
-ghost use Rattle.swaps.specs.Work.{PairAt, wayBy, Asking, Preparing, Prepared, Swappable, SwapDone};
+ghost use Rattle.swaps.specs.Work.{PairAt, CountsOf, wayBy, Asking, Preparing, Prepared, Swappable, SwapDone};
 use checks::Refusal;
 use checks::Verdict;
 use diagrams::MOST_RECORDS;
@@ -38,7 +39,7 @@ pub enum SwapAnswer {
     Refused(Refusal),
 }
 
-// ---- asking: the reckoning over lists that are made for it
+// ---- asking
 
 // The variables of levels level and level + 1.
 fn pair_at(order: Order, level: usize) -> Pair
@@ -66,72 +67,95 @@ fn way_by(level: usize, counts: Counts) -> Way
     Way::Clear
 }
 
+// How many records of each kind the swap of a pair has to do with. The reckoning goes over lists that are made for it.
+fn counts_for(table: &[u8], pair: Pair) -> Counts
+    requires { ⌜ records (now table) ≤ mostRecords ⌝ }
+    ensures { λ q. ⌜ CountsOf (now (table .entry)) pair q ⌝ }
+{
+    let mut crossing = collect::no_entries();
+    let mut standing = collect::no_entries();
+    let mut slots = collect::no_entries();
+    let mut news = news::no_news();
+    let mut kept = news::none_kept();
+    swap_reckoning::reckon(
+        table,
+        pair,
+        &mut crossing,
+        &mut standing,
+        &mut slots,
+        &mut news,
+        &mut kept,
+    )
+}
+
 // What stands in the way of the swap of levels level and level + 1? Nothing is written.
 pub fn ask(table: &[u8], order: Order, level: usize) -> Way
     requires { ⌜ Asking (now table) level ⌝ }
     ensures { λ w. ⌜ w ≡ wayOf (now (table .entry)) (order .variables) level ⌝ }
 {
     let pair = pair_at(order, level);
-    let mut crossing = collect::no_entries();
-    let mut standing = collect::no_entries();
-    let mut slots = collect::no_entries();
-    let mut news = news::no_news();
-    let mut kept = news::none_kept();
-    let counts = swap_reckoning::reckon(
-        table,
-        pair,
-        &mut crossing,
-        &mut standing,
-        &mut slots,
-        &mut news,
-        &mut kept,
-    );
-    way_by(level, counts)
+    way_by(level, counts_for(table, pair))
 }
 
-// ---- swapping: the image is filled after the same reckoning, and then published
+// ---- swapping: an image is filled after the same reckoning, and then published
 
 fn no_image() -> [u8; RECORD_SIZE * MOST_RECORDS] {
     [0u8; RECORD_SIZE * MOST_RECORDS]
 }
 
-// The table afterwards goes to the image, if nothing stands in the way.
-fn prepare(table: &[u8], roots: &[u8], order: Order, level: usize, image: &mut [u8]) -> Way
-    requires { ⌜ Preparing (now table) (now roots) level (now image) ⌝ }
-    ensures { λ w. ⌜ Prepared (now (table .entry)) (now (roots .entry)) (order .variables) level w (now (image .exit)) ⌝ }
+// The swap of a pair is reckoned, and where there is room the table afterwards goes to the image.
+fn reckon_and_fill(
+    table: &[u8],
+    roots: &[u8],
+    pair: Pair,
+    crossing: &mut [u16],
+    standing: &mut [u16],
+    slots: &mut [u16],
+    news: &mut [u16],
+    kept: &mut [u16],
+    image: &mut [u8],
+) -> Counts
+    requires { ⌜ WorkRoom (now table) (now crossing) (now standing) (now slots) (now news) (now kept) × Preparing (now table) (now roots) pair (now image) ⌝ }
+    ensures { λ q. ⌜ Prepared (now (table .entry)) (now (roots .entry)) pair q (now (image .exit)) ⌝ }
 {
-    let pair = pair_at(order, level);
+    let counts = swap_reckoning::reckon(table, pair, crossing, standing, slots, news, kept);
+    if counts.needed <= counts.free {
+        swap_result::fill(
+            table,
+            roots,
+            pair,
+            crossing,
+            standing,
+            slots,
+            news,
+            kept,
+            counts,
+            image,
+        );
+    }
+    counts
+}
+
+fn prepare(table: &[u8], roots: &[u8], pair: Pair, image: &mut [u8]) -> Counts
+    requires { ⌜ Preparing (now table) (now roots) pair (now image) ⌝ }
+    ensures { λ q. ⌜ Prepared (now (table .entry)) (now (roots .entry)) pair q (now (image .exit)) ⌝ }
+{
     let mut crossing = collect::no_entries();
     let mut standing = collect::no_entries();
     let mut slots = collect::no_entries();
     let mut news = news::no_news();
     let mut kept = news::none_kept();
-    let counts = swap_reckoning::reckon(
+    reckon_and_fill(
         table,
+        roots,
         pair,
         &mut crossing,
         &mut standing,
         &mut slots,
         &mut news,
         &mut kept,
-    );
-    let way = way_by(level, counts);
-    if let Way::NoRoom(lack) = way {
-        return Way::NoRoom(lack);
-    }
-    swap_result::fill(
-        table,
-        roots,
-        pair,
-        &crossing,
-        &standing,
-        &slots,
-        &news,
-        &kept,
-        counts,
         image,
-    );
-    Way::Clear
+    )
 }
 
 // The one writer of a lent table: it knows nothing of diagrams.
@@ -152,8 +176,10 @@ pub fn swap_table(table: &mut [u8], roots: &[u8], order: Order, level: usize) ->
     requires { ⌜ Sized (now table) (now roots) × (level + 1 < ceiling) ⌝ }
     ensures { λ w. ⌜ TableSwapped (now (table .entry)) (now (roots .entry)) (order .variables) level w (now (table .exit)) ⌝ }
 {
+    let pair = pair_at(order, level);
     let mut image = no_image();
-    match prepare(table, roots, order, level, &mut image) {
+    let counts = prepare(table, roots, pair, &mut image);
+    match way_by(level, counts) {
         Way::NoRoom(lack) => Way::NoRoom(lack),
         Way::Clear => {
             publish(table, &image);

@@ -1,0 +1,13 @@
+use borrow.Author.Needs.{needs}
+use Rattle.swaps.proofs.Entry.{asked}
+use Rattle.swaps.proofs.ask.Statement.{statement}
+use Rattle.swaps.proofs.ask.Tie as tie
+
+pub ask-spec : {M : Type 1} → statement M
+ask-spec =
+    tie.close
+    (tie.spec
+    (λ c κs. search needs)
+    (λ c κs. search needs)
+    (λ c κs. search needs)
+    (λ c. search asked))
