@@ -56,15 +56,26 @@ no-root-refused r o position inputs h = sym (place-refuses 10 position (noRoot r
 module _ (t t′ r o o′ : List ℕ) (u : Usable t r o) (u′ : Usable t′ r o′) (long : length o′ ≡ length o)
     (same : (inputs : ℕ → Bool) (position : ℕ) → position < rootCount r
     → value (lookup t′) inputs (length o) (rootAt r position) ≡ value (lookup t) inputs (length o) (rootAt r position)) where
-  -- after its own checks, Read tells the same value of both
-  value-same : (position : ℕ) (inputs : List ℕ)
+  there : (position : ℕ) (inputs : List ℕ) → position < rootCount r
       → readAfter (verdictOf (ownStages r o position inputs)) (rootValue t′ r o′ position inputs)
       ≡ readAfter (verdictOf (ownStages r o position inputs)) (rootValue t r o position inputs)
   unfolding rootValue
-  value-same position inputs =
-      either-side position (rootCount r)
-      (λ b. ap (readAfter _) (ap (λ n. value (lookup t′) (inputOf inputs) n (rootAt r position)) long ∙ same (inputOf inputs) position b))
-      (λ h. rw (no-root-refused r o position inputs h))
+  there position inputs b =
+      ap (readAfter (verdictOf (ownStages r o position inputs)))
+      (ap (λ n. value (lookup t′) (inputOf inputs) n (rootAt r position)) long ∙ same (inputOf inputs) position b)
+
+  gone : (position : ℕ) (inputs : List ℕ) → rootCount r ≤ position
+      → readAfter (verdictOf (ownStages r o position inputs)) (rootValue t′ r o′ position inputs)
+      ≡ readAfter (verdictOf (ownStages r o position inputs)) (rootValue t r o position inputs)
+  gone position inputs h =
+      ap (λ v. readAfter v (rootValue t′ r o′ position inputs)) (no-root-refused r o position inputs h)
+      ∙ sym (ap (λ v. readAfter v (rootValue t r o position inputs)) (no-root-refused r o position inputs h))
+
+  -- after its own checks, Read tells the same value of both: of a root that is there the same one, of any other none
+  value-same : (position : ℕ) (inputs : List ℕ)
+      → readAfter (verdictOf (ownStages r o position inputs)) (rootValue t′ r o′ position inputs)
+      ≡ readAfter (verdictOf (ownStages r o position inputs)) (rootValue t r o position inputs)
+  value-same position inputs = either-side position (rootCount r) (there position inputs) (gone position inputs)
 
   pub read-same : (position : ℕ) (inputs : List ℕ) → readOf t′ r o′ position inputs ≡ readOf t r o position inputs
   read-same position inputs =

@@ -10,6 +10,8 @@ use Rattle.listing.specs.Text.{listing}
 use Rattle.program.specs.Text.{answerText, isRefused, storeText, printed}
 use Rattle.program.specs.Program.{largestBudget, programText, Prints}
 use Rattle.program.specs.Size.{text-space}
+use Rattle.plans.specs.BringUp.{bringUp}
+use Rattle.slices.specs.OneSwap.{plainSwap}
 use Rattle.slices.specs.Run.{RunOutcome}
 
 -- ---- an answer
@@ -34,8 +36,8 @@ pub ruleset storing = (space-as, put-as, store-none, store-listed, needs)
 
 -- ---- the text of the program
 
-pub program-printed : (t r o g : List ℕ) {a : RunAnswer} {t′ o′ x y : List ℕ} {n : ℕ} → RunOutcome t r o g largestBudget a t′ o′
-    → Printed (printed a t′ r o′) x y n → Prints t r o g x y n
+pub program-printed : (t r o g : List ℕ) {a : RunAnswer} {t′ o′ x y : List ℕ} {n : ℕ}
+    → RunOutcome plainSwap bringUp t r o g largestBudget a t′ o′ → Printed (printed a t′ r o′) x y n → Prints t r o g x y n
 unfolding programText
 program-printed t r o g {x = x} {y = y} {n = n} e p = rw (← e) p
 
