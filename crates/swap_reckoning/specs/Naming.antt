@@ -12,7 +12,7 @@ use lib.Seq.{getD-set-same, getD-set-other}
 use Rattle.lists.specs.Collect.{Collected}
 use Rattle.lists.specs.Entries.{fold-entries, entries-few}
 use Rattle.lists.specs.First.{any, any-or, first-agrees}
-use Rattle.lists.specs.Fold.{fold, Steps, steps-begin, steps-go, steps-end}
+use Rattle.lists.specs.Fold.{fold, Writes, writes-begin, writes-go, writes-end}
 use Rattle.lists.specs.Says.{decided, either-side, says-eqb}
 use Rattle.lists.specs.Truth.{or-true, or-false, or-assoc}
 use Rattle.diagrams.specs.Edition.{plain}
@@ -109,22 +109,21 @@ module _ {f : List ℕ → ℕ → List ℕ} (two : TwoNames f) where
 pub record Counting (f : List ℕ → ℕ → List ℕ) (start : List ℕ) (m k : ℕ) (l : List ℕ) : Type 0 where
   pub two : TwoNames f
   pub room : CountRoom start (2 * m)
-  pub same : length l ≡ length start
-  pub steps : Steps f start m k l
+  pub writes : Writes f start m k l
 
 module _ {f : List ℕ → ℕ → List ℕ} {start : List ℕ} {m : ℕ} where
   pub counting-begins : {n : ℕ} → TwoNames f → CountRoom start (2 * n) → m ≡ n → Counting f start m 0 start
-  counting-begins two c e = record { two = two; room = rw e c; same = refl; steps = steps-begin }
+  counting-begins two c e = record { two = two; room = rw e c; writes = writes-begin }
 
   module _ {k : ℕ} {l : List ℕ} (w : Counting f start m k l) where
     pub counting-two : k < m → CountRoom l 2
-    counting-two h = rw (w .steps .so-far) (room-fold (w .two) start k 2 (room-less (w .room) (omega arith)))
+    counting-two h = rw (w .writes .so-far .so-far) (room-fold (w .two) start k 2 (room-less (w .room) (omega arith)))
 
     pub counting-one : k < m → CountRoom l 1
     counting-one h = room-less (counting-two h) (omega arith)
 
     pub counting-goes : {l′ : List ℕ} → l′ ≡ f l k → length l′ ≡ length l → k < m → Counting f start m (k + 1) l′
-    counting-goes e s h = record { two = w .two; room = w .room; same = s ∙ w .same; steps = steps-go (w .steps) h e }
+    counting-goes e s h = record { two = w .two; room = w .room; writes = writes-go (w .writes) e s h }
 
     pub counting-ends : {n : ℕ} → m ≤ k → m ≡ n → l ≡ fold f start n
-    counting-ends h e = rw (← e) (steps-end (w .steps) h)
+    counting-ends h e = writes-end (w .writes) h e

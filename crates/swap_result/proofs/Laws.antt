@@ -1,13 +1,12 @@
 -- The records of the image: one law for each way out of a function, over plain variables.
-use Prim.Native.Nat.{ℕ, _+_, _*_, _≤_, _<_}
+use Prim.Native.Nat.{ℕ, _+_, _*_}
 use mathlib.Core.Bool.{Bool, true, false, _&&_}
 use mathlib.Core.List.{List}
-use mathlib.Core.Path.{_≡_, refl, ap₂, sym, _∙_}
+use mathlib.Core.Path.{_≡_, ap₂, sym, _∙_}
 use native.Mathlib.Omega.{arith}
-use borrow.Author.Needs.{needs}
-use lib.ListN.{length, getD}
-use Rattle.lists.specs.Fold.{fold, Steps, steps-begin, steps-go, steps-end}
-use Rattle.diagrams.specs.Layout.{records, InTable}
+use lib.ListN.{getD}
+use Rattle.lists.specs.Fold.{Writes, writes}
+use Rattle.diagrams.specs.Layout.{InTable}
 use Rattle.diagrams.specs.Node.{free, node}
 use Rattle.diagrams.specs.Decode.{nodeAt, eight}
 use Rattle.diagrams.specs.Store.{laid, storedAt}
@@ -33,25 +32,10 @@ pub pair-laid : (v : ℕ) (pairs : List ℕ) (k : ℕ) {a b : ℕ} (f : Fields) 
     → laid f ≡ eight (pairAt v pairs k)
 pair-laid v pairs k f p q e = rw (← p, ← q) e
 
--- ---- a loop that stores records, at k of m
+-- ---- the loops that store records
 
-pub record Storing (step : List ℕ → ℕ → List ℕ) (start : List ℕ) (m k : ℕ) (l : List ℕ) : Type 0 where
-  pub same : length l ≡ length start
-  pub steps : Steps step start m k l
-
-module _ {step : List ℕ → ℕ → List ℕ} {start : List ℕ} {m : ℕ} where
-  pub storing-begins : Storing step start m 0 start
-  storing-begins = record { same = refl; steps = steps-begin }
-
-  module _ {k : ℕ} {l : List ℕ} (w : Storing step start m k l) where
-    pub storing-inside : (i : ℕ) → InTable start i → InTable l i
-    storing-inside i h = omega (arith, w .same)
-
-    pub storing-goes : {l′ : List ℕ} → l′ ≡ step l k → length l′ ≡ length l → k < m → Storing step start m (k + 1) l′
-    storing-goes e s h = record { same = s ∙ w .same; steps = steps-go (w .steps) h e }
-
-    pub storing-ends : {n : ℕ} → m ≤ k → m ≡ n → l ≡ fold step start n
-    storing-ends h e = rw (← e) (steps-end (w .steps) h)
+pub storing-inside : {step : List ℕ → ℕ → List ℕ} {start : List ℕ} {m k : ℕ} {l : List ℕ} (i : ℕ) → Writes step start m k l → InTable start i → InTable l i
+storing-inside i w h = omega (arith, w .same)
 
 pub stays-stored : (t : List ℕ) (y : ℕ) (names l : List ℕ) (i : ℕ) (f : Fields) {l′ : List ℕ} → laid f ≡ eight (stayingAt t y names i)
     → l′ ≡ storedAt l i (laid f) → l′ ≡ stayed t y names l i
@@ -63,4 +47,4 @@ pub pair-stored : (v : ℕ) (pairs numbers l : List ℕ) (k : ℕ) (f : Fields) 
 unfolding placed
 pair-stored v pairs numbers l k f p e q = rw (← p, ← e) q
 
-pub ruleset storing = (storing-begins, storing-inside, storing-goes, storing-ends, stays-stored, pair-stored, entries)
+pub ruleset storing = (storing-inside, stays-stored, pair-stored, writes, entries)

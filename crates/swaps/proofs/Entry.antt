@@ -7,10 +7,10 @@ use native.Mathlib.Nat.{le-refl}
 use native.Mathlib.Omega.{arith}
 use borrow.Author.Tests.{leb-true, le-leb, lt-leb}
 use lib.Dec.{leb}
-use lib.ListN.{length, take, drop-of-length-le}
+use lib.ListN.{length, getD, set, take, drop-of-length-le}
 use Rattle.lists.specs.Apart.{apart}
 use Rattle.lists.specs.Copy.{copied, copied-first}
-use Rattle.lists.specs.Fold.{Steps, steps-end}
+use Rattle.lists.specs.Fold.{Writes, writes-end}
 use Rattle.swap_rules.specs.Swap.{fits}
 use Rattle.swap_records.specs.declared.Pair.{Pair}
 use Rattle.swap_reckoning.specs.Reckoned.{Reckoned, needed-is, free-is}
@@ -71,14 +71,19 @@ module _ {t : List ℕ} {p : Pair} {crossing standing slots news kept : List ℕ
 
 -- ---- the table
 
-pub published : (table image : List ℕ) {i : ℕ} {l : List ℕ} → Steps (copied image) table (length table) i l → length table ≤ i → length table ≤ length image
-    → l ≡ take (length table) image
-published table image s e h =
-    steps-end s e ∙ copied-first image table (length table) h (omega arith)
+pub copied-at : (from l : List ℕ) (i : ℕ) → set l i (getD from i 0) ≡ copied from l i
+unfolding copied
+copied-at from l i = refl
+
+pub published : (image : List ℕ) {table : List ℕ} {m i : ℕ} {l : List ℕ} → Writes (copied image) table m i l → m ≤ i → m ≡ length table
+    → length table ≤ length image → l ≡ take (length table) image
+published image {table} w e s h =
+    writes-end w e s ∙ copied-first image table (length table) h (omega arith)
     ∙ ap (λ d. take (length table) image ++ d) (drop-of-length-le table {i = length table} (le-refl (length table)))
     ∙ append-nil (take (length table) image)
 
-module _ {t r o : List ℕ} {k : ℕ} {p : Pair} (P : PairAt o k p) {q : Counts} {image : List ℕ} (A : Prepared t r p q image) {w : Way} (by : w ≡ wayBy k q) where
+module _ {t r o : List ℕ} {k : ℕ} {p : Pair} (P : PairAt o k p) {q : Counts} {image : List ℕ} (A : Prepared t r p q image)
+    {w : Way} (by : w ≡ wayBy k q) where
   pub not-swapped : {l : Lack} → w ≡ way.NoRoom l → TableSwapped t r o k (way.NoRoom l) t
   not-swapped e = record { answer = sym e ∙ asked P (A .counts) by; table = refl }
 
