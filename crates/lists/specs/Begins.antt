@@ -35,7 +35,7 @@ module _ {A : Type 0} where
         ∙ first-passed (λ i. p (getD l i d)) (length l) .at j h
 
     -- an element that is found stays where it is
-    pub place-kept : {l m : List A} → Begins l m → placeOf l < length l → placeOf m ≡ placeOf l
+    place-kept : {l m : List A} → Begins l m → placeOf l < length l → placeOf m ≡ placeOf l
     place-kept {l} b h =
         rw (b .is)
         (first-at _ (length (l ++ b .rest)) (placeOf l) (record { at = place-before l (b .rest) })

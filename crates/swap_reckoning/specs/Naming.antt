@@ -1,47 +1,37 @@
--- What dies, found by counting names: the counts are those of the roots and of the records that stay as they are.
+-- Counting names: one more for a reference that a root or a record names, and room for every count in 16 bits.
 use Prim.Native.Nat.{ℕ, zero, suc, _+_, _*_, _≤_, _<_}
-use mathlib.Core.Bool.{Bool, true, false, cond, not, _&&_, _||_}
+use mathlib.Core.Bool.{Bool, true, false, cond, not, _&&_}
 use mathlib.Core.List.{List}
 use mathlib.Core.Logic.{⊎-elim}
-use mathlib.Core.Path.{_≡_, refl, ap, sym, _∙_}
+use mathlib.Core.Path.{_≡_, sym}
 use native.Mathlib.Omega.{arith}
-use borrow.Author.Tests.{eqb-true, eqb-false, ne-eqb}
-use lib.Dec.{eqb, ltb}
+use lib.Dec.{eqb}
 use lib.ListN.{length, getD, set, length-set, List·getD-eq-default}
 use lib.Seq.{getD-set-same, getD-set-other}
-use Rattle.lists.specs.Collect.{Collected}
-use Rattle.lists.specs.Entries.{fold-entries, entries-few}
-use Rattle.lists.specs.First.{any, any-or, first-agrees}
 use Rattle.lists.specs.Fold.{fold, Writes, writes-begin, writes-go, writes-end}
 use Rattle.lists.specs.Says.{decided, either-side, says-eqb}
-use Rattle.lists.specs.Truth.{or-true, or-false, or-assoc}
-use Rattle.diagrams.specs.Edition.{plain}
-use Rattle.diagrams.specs.Layout.{mostRecords, records, rootCount, rootAt, variableAt, lowAt, highAt, isFree, isUsed}
-use Rattle.diagrams.specs.Node.{free, node, at, ref, two-more}
-use Rattle.diagrams.specs.Decode.{nodeAt, decode}
-use Rattle.diagrams.specs.Lookup.{lookup, at-decode, rootsOf, length-roots, root-is}
-use Rattle.diagrams.specs.Noting.{rootNames, noNotes, length-no-notes, no-note, roots-long, roots-has, records-long, records-has}
-use Rattle.check_sizes.specs.Sizes.{Sized}
-use Rattle.swap_rules.specs.Record.{lowOf, highOf, isFreeNode}
-use Rattle.swap_rules.specs.Swap.{crosses, stillNames, dies}
-use Rattle.swap_records.specs.Kinds.{of-is, ofAt, crossesAt, standsAt}
-use Rattle.swap_records.specs.Listed.{StandingListed}
-use Rattle.swap_records.specs.declared.Pair.{Pair}
+use Rattle.diagrams.specs.Layout.{rootAt, lowAt, highAt, isUsed}
+use Rattle.swap_records.specs.Kinds.{ofAt}
 
--- ---- one name more: of a reference, of root k, of record i, of record i where it is no x record, and of entry k of a list
+-- ---- what is named is counted once more
 
+-- the reference q
 unfoldable pub named : List ℕ → ℕ → List ℕ
 named l q = set l q (getD l q 0 + 1)
 
+-- what root k names
 unfoldable pub namedRoot : List ℕ → List ℕ → ℕ → List ℕ
 namedRoot r l k = named l (rootAt r k)
 
+-- what record i names
 unfoldable pub namedBy : List ℕ → List ℕ → ℕ → List ℕ
 namedBy t l i = named (named l (lowAt t i)) (highAt t i)
 
+-- the same, where record i is used and no x record
 unfoldable pub namedOther : List ℕ → ℕ → List ℕ → ℕ → List ℕ
 namedOther t x l i = cond (isUsed t i && not (ofAt t x i)) (namedBy t l i) l
 
+-- what the record names whose number is entry k of a list
 unfoldable pub namedEntry : List ℕ → List ℕ → List ℕ → ℕ → List ℕ
 namedEntry t list l k = namedBy t l (getD list k 0)
 

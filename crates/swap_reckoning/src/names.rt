@@ -1,6 +1,6 @@
 // What dies: how often the roots and the records that stay as they are name each reference.
 ghost use mathlib.Core.Path.{_≡_};
-ghost use Prim.Native.Nat.{_+_, _*_, _<_, _≤_};
+ghost use Prim.Native.Nat.{_+_, _*_, _<_};
 ghost use lib.ListN.{length};
 ghost use Rattle.lists.specs.Fold.{fold};
 ghost use Rattle.diagrams.specs.Layout.{records, rootCount, InTable};

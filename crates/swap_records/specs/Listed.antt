@@ -104,12 +104,6 @@ module _ {t list : List ℕ} {count k : ℕ} where
 
 pub ruleset entries = (entry-room, entry-inside, entry-used, needs)
 
-pub inside-wider : (t : List ℕ) {t′ list : List ℕ} {count : ℕ} → Inside t list count → length t ≤ length t′ → Inside t′ list count
-inside-wider t i h = record { room = i .room; at = λ k l. omega (arith, i .at k l) }
-
-pub inside-fewer : {t list : List ℕ} {count m : ℕ} → Inside t list count → m ≤ count → Inside t list m
-inside-fewer i h = record { room = omega (arith, i .room); at = λ k l. i .at k (omega arith) }
-
 -- ---- a list of the records that pass
 
 pub inside-of : {t list : List ℕ} {k : ℕ} {p : ℕ → Bool} → Collected p (records t) list k → Inside t list k

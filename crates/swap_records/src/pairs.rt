@@ -1,7 +1,7 @@
 // Pairs of references, one after the other in one list: low and high of each record that a swap makes or changes.
 ghost use mathlib.Core.Path.{_≡_};
-ghost use Prim.Native.Nat.{_+_, _*_, _<_, _≤_};
-ghost use lib.ListN.{length, getD};
+ghost use Prim.Native.Nat.{_+_, _*_, _<_};
+ghost use lib.ListN.{getD};
 ghost use Rattle.swap_records.specs.Pairs.{putAt, PairRoom};
 use diagrams::Reference;
 

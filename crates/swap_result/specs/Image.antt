@@ -1,5 +1,5 @@
 -- The image of the table afterwards: the records that stay, over which the new and the crossed ones are stored, are the definition's.
-use Prim.Native.Nat.{ℕ, _+_, _*_, _%_, _≤_, _<_}
+use Prim.Native.Nat.{ℕ, _+_, _*_, _≤_, _<_}
 use mathlib.Core.Bool.{Bool, true, false, cond, _&&_}
 use mathlib.Core.List.{List, _++_}
 use mathlib.Core.Logic.{_⊎_, inl, inr}
@@ -10,7 +10,6 @@ use lib.Dec.{ltb}
 use lib.ListN.{length, getD, take, drop}
 use lib.Seq.{take-at}
 use Rattle.lists.specs.Count.{count}
-use Rattle.lists.specs.Collect.{Collected}
 use Rattle.lists.specs.Entries.{through, length-entries, entry-rank, collected-first, fold-entries}
 use Rattle.lists.specs.Fold.{fold, fold-agrees}
 use Rattle.lists.specs.Ranks.{which-index, which-absent}
@@ -32,7 +31,7 @@ use Rattle.swap_reckoning.specs.Asked.{newsIn, becomesIn}
 use Rattle.swap_reckoning.specs.Naming.{unnamed}
 use Rattle.swap_reckoning.specs.Dying.{diesIn, Counted}
 use Rattle.swap_reckoning.specs.Noting.{slots-which}
-use Rattle.swap_reckoning.specs.Reckoned.{Reckoned, needed-is, free-is}
+use Rattle.swap_reckoning.specs.Reckoned.{Reckoned, needed-is}
 use Rattle.swap_reckoning.specs.declared.Counts.{Counts}
 
 -- ---- one record stored

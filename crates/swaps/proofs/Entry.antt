@@ -1,5 +1,5 @@
 -- What the reckoning, the image and the table hold at each way out, over plain variables.
-use Prim.Native.Nat.{ℕ, _*_, _≤_, _<_}
+use Prim.Native.Nat.{ℕ, _≤_, _<_}
 use mathlib.Core.Bool.{Bool, true, false, cond}
 use mathlib.Core.List.{List, _++_, append-nil}
 use mathlib.Core.Path.{_≡_, refl, ap, ap₂, sym, _∙_}

@@ -1,7 +1,7 @@
 // Swap two neighbouring levels of a stored diagram. The reckoning reads the table, and the table afterwards is put into an image;
 // the lent buffers are written only when everything is known.
 ghost use mathlib.Core.Path.{_≡_};
-ghost use Prim.Native.Nat.{_+_, _*_, _%_, _≤_, _<_};
+ghost use Prim.Native.Nat.{_+_, _*_, _≤_, _<_};
 ghost use lib.ListN.{length, take};
 ghost use Rattle.diagrams.specs.Layout.{mostRecords, records};
 ghost use Rattle.check_sizes.specs.Sizes.{Sized};

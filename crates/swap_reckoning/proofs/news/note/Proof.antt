@@ -1,4 +1,3 @@
-use borrow.Author.Needs.{needs}
 use Rattle.swap_reckoning.proofs.Laws.{noting}
 use Rattle.swap_reckoning.proofs.news.note.Statement.{statement}
 use Rattle.swap_reckoning.proofs.news.note.Tie as tie

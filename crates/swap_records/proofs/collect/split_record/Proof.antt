@@ -1,4 +1,3 @@
-use borrow.Author.Needs.{needs}
 use Rattle.swap_records.proofs.Laws.{splitting}
 use Rattle.swap_records.proofs.collect.split_record.Statement.{statement}
 use Rattle.swap_records.proofs.collect.split_record.Tie as tie
