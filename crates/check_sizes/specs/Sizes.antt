@@ -36,12 +36,12 @@ pub record Sizes (t r o : List ℕ) : Type 0 where
   pub few-roots : rootCount r ≤ mostRoots
 
 -- what of it a swap asks for
-pub record Sized (t r : List ℕ) : Type 0 where
+pub record TableSizes (t r : List ℕ) : Type 0 where
   pub few-records : length t ≤ recordSize * mostRecords
   pub whole-records : length t % recordSize ≡ 0
   pub few-roots : rootCount r ≤ mostRoots
 
-pub sized : {t r o : List ℕ} → Sizes t r o → Sized t r
+pub sized : {t r o : List ℕ} → Sizes t r o → TableSizes t r
 sized s = record { few-records = s .few-records; whole-records = s .whole-records; few-roots = s .few-roots }
 
 sizes-says : (t r o : List ℕ) → Says (badSizes t r o)

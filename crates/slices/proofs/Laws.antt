@@ -23,7 +23,7 @@ use Rattle.plans.specs.BringUp.{bringUp, bring-up-lawful}
 use Rattle.plans.specs.Towards.{arranged-adjacent}
 use Rattle.slice_rules.specs.Slices as over
 use Rattle.slice_rules.specs.Slices.{slicing-begins, slicing-goes, slicing-rests, slicing-ends}
-use Rattle.check_sizes.specs.Sizes.{Sized, sized, badSizes}
+use Rattle.check_sizes.specs.Sizes.{TableSizes, sized, badSizes}
 use Rattle.checks.specs.Stages.{verdictOf, clear-only, chain}
 use Rattle.checks.specs.declared.Refusal.{Refusal}
 use Rattle.checks.specs.declared.Verdict.{Verdict}
@@ -73,7 +73,7 @@ module _ {order goal : Order} {n : ℕ} (h : Arranged order n) (i : Arranged goa
 pub order-inverse : {order : Order} {n : ℕ} → Arranged order n → Inverse order
 order-inverse h = arranged-inverse h
 
-pub asking : {t r : List ℕ} {k : ℕ} → Sized t r → k + 1 < ceiling → Asking t k
+pub asking : {t r : List ℕ} {k : ℕ} → TableSizes t r → k + 1 < ceiling → Asking t k
 asking s l = record { few-records = s .few-records; whole-records = s .whole-records; level = l }
 
 -- ---- one planned swap, and the answer judged on the state left
@@ -163,21 +163,22 @@ pub ruleset judging = (judge-done, judge-stuck, judge-paused)
 
 -- ---- the loop
 
-pub same-sizes : (t t₀ : List ℕ) {r : List ℕ} → length t ≡ length t₀ → Sized t₀ r → Sized t r
+pub same-sizes : (t t₀ : List ℕ) {r : List ℕ} → length t ≡ length t₀ → TableSizes t₀ r → TableSizes t r
 same-sizes t t₀ e s = record { few-records = rw e (s .few-records); whole-records = rw e (s .whole-records); few-roots = s .few-roots }
 
 -- at i swaps of the budget
 pub record Driving (t₀ r : List ℕ) (start goal : Order) (n budget : ℕ) (t : List ℕ) (order : Order) (i : ℕ) : Type 0 where
   pub so-far : over.Slicing (relay plainSwap r) bringUp (bytesOf goal n) (stateOf t₀ start n) budget i (stateOf t order n)
   pub arranged : Arranged order n
-  pub sized : Sized t r
+  pub sized : TableSizes t r
   pub long : length t ≡ length t₀
 
-pub drive-begins : {t r : List ℕ} {start : Order} (goal : Order) (budget : ℕ) {n : ℕ} → Sized t r → Arranged start n → Driving t r start goal n budget t start 0
+pub drive-begins : {t r : List ℕ} {start : Order} (goal : Order) (budget : ℕ) {n : ℕ} → TableSizes t r → Arranged start n
+    → Driving t r start goal n budget t start 0
 drive-begins {t} {r} goal budget {n} s a = record { so-far = slicing-begins (relay plainSwap r) bringUp (bytesOf goal n); arranged = a; sized = s; long = refl }
 
 module _ {t₀ r : List ℕ} {start goal : Order} {n budget i : ℕ} {t : List ℕ} {order : Order} (d : Driving t₀ r start goal n budget t order i) where
-  pub drive-sized : Sized t r
+  pub drive-sized : TableSizes t r
   drive-sized = d .sized
 
   pub drive-arranged : Arranged order n
@@ -232,10 +233,10 @@ module _ (t r o g : List ℕ) (starts : Startable plainSwap t r o g) where
   pub order-permuted : Permutation o
   order-permuted = starts .usable .order
 
-  pub table-sized : Sized t r
+  pub table-sized : TableSizes t r
   table-sized = sized (starts .usable .sizes)
 
-  pub still-sized : {t′ : List ℕ} → length t′ ≡ length t → Sized t′ r
+  pub still-sized : {t′ : List ℕ} → length t′ ≡ length t → TableSizes t′ r
   still-sized {t′} e = same-sizes t′ t e table-sized
 
   module _ {goal : Order} (goal-is : goal ≡ loadOrder g) where

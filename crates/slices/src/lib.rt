@@ -2,7 +2,7 @@
 ghost use mathlib.Core.Path.{_≡_};
 ghost use Rattle.orders.specs.Arranged.{Arranged};
 ghost use Rattle.plans.specs.BringUp.{bringUp};
-ghost use Rattle.check_sizes.specs.Sizes.{Sized};
+ghost use Rattle.check_sizes.specs.Sizes.{TableSizes};
 ghost use Rattle.checks.specs.Stages.{verdictOf};
 ghost use Rattle.slices.specs.OneSwap.{plainSwap};
 ghost use Rattle.slices.specs.Run.{badRunSizes, runStages, Stepped, Driven, judgedOn, SliceDone, RunOutcome};
@@ -79,7 +79,7 @@ fn verdict_of_run(table: &[u8], roots: &[u8], order: &[u8], target: &[u8]) -> Ve
 // ---- one planned swap
 
 fn step(table: &mut [u8], roots: &[u8], order: Order, goal: Order, n: usize) -> Turn
-    requires { ⌜ Sized (now table) (now roots) × (Arranged order n × Arranged goal n) ⌝ }
+    requires { ⌜ TableSizes (now table) (now roots) × (Arranged order n × Arranged goal n) ⌝ }
     ensures { λ s. ⌜ Stepped plainSwap bringUp (now (table .entry)) (now (roots .entry)) order goal n s (now (table .exit)) ⌝ }
 {
     if plans::same(order, goal, n) {
@@ -110,7 +110,7 @@ fn drive(
     n: usize,
     budget: usize,
 ) -> Reached
-    requires { ⌜ Sized (now table) (now roots) × (Arranged start n × Arranged goal n) ⌝ }
+    requires { ⌜ TableSizes (now table) (now roots) × (Arranged start n × Arranged goal n) ⌝ }
     ensures { λ l. ⌜ Driven plainSwap bringUp (now (table .entry)) (now (roots .entry)) start goal n budget l (now (table .exit)) ⌝ }
 {
     let mut order = start;
@@ -129,7 +129,7 @@ fn drive(
 // ---- the answer, judged on the state left
 
 fn judge(table: &[u8], roots: &[u8], order: Order, goal: Order, n: usize, swaps: usize) -> RunAnswer
-    requires { ⌜ Sized (now table) (now roots) × (Arranged order n × Arranged goal n) ⌝ }
+    requires { ⌜ TableSizes (now table) (now roots) × (Arranged order n × Arranged goal n) ⌝ }
     ensures { λ a. ⌜ a ≡ judgedOn plainSwap bringUp (now (table .entry)) (now (roots .entry)) order goal n swaps ⌝ }
 {
     let left = plans::left(order, goal, n);

@@ -19,7 +19,7 @@ use Rattle.diagrams.specs.Node.{Node, free, node, at, ref, two-more}
 use Rattle.diagrams.specs.Decode.{nodeAt, decode}
 use Rattle.diagrams.specs.Lookup.{lookup, at-decode, rootsOf, length-roots, root-is}
 use Rattle.diagrams.specs.Noting.{rootNames, noNotes, length-no-notes, no-note, roots-long, roots-has, records-long, records-has}
-use Rattle.check_sizes.specs.Sizes.{Sized}
+use Rattle.check_sizes.specs.Sizes.{TableSizes}
 use Rattle.swap_rules.specs.Record.{lowOf, highOf, isFreeNode}
 use Rattle.swap_rules.specs.Swap.{crosses, stillNames, dies}
 use Rattle.swap_records.specs.Kinds.{of-is, ofAt, crossesAt, standsAt}
@@ -107,7 +107,7 @@ roots-name r q = rw (length-roots r) (ap (λ k. ltb k (rootCount r)) (first-agre
 
 -- ---- the counts, one list after the other
 
-module _ {t r : List ℕ} (sized : Sized t r) {l₀ : List ℕ} (none : l₀ ≡ noNotes) where
+module _ {t r : List ℕ} (sized : TableSizes t r) {l₀ : List ℕ} (none : l₀ ≡ noNotes) where
   room-first : (n : ℕ) → n ≤ 65535 → CountRoom l₀ n
   room-first n h = rw none (record { at = λ q. omega (arith, none-named q) })
 

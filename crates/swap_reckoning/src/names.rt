@@ -5,7 +5,7 @@ ghost use lib.ListN.{length};
 ghost use Rattle.lists.specs.Fold.{fold};
 ghost use Rattle.diagrams.specs.Layout.{records, rootCount, InTable};
 ghost use Rattle.diagrams.specs.Noting.{noNotes};
-ghost use Rattle.check_sizes.specs.Sizes.{Sized};
+ghost use Rattle.check_sizes.specs.Sizes.{TableSizes};
 ghost use Rattle.swap_records.specs.Listed.{StandingListed, Inside};
 ghost use Rattle.swap_reckoning.specs.Naming.{named, namedRoot, namedBy, namedOther, namedEntry, unnamed, CountRoom};
 ghost use Rattle.swap_reckoning.specs.Dying.{Counted};
@@ -94,7 +94,7 @@ pub fn count_names(
     standing: &[u16],
     count: usize,
 ) -> [u16; MOST_RECORDS + 2]
-    requires { ⌜ Sized (now table) (now roots) × StandingListed (now table) pair (now standing) count ⌝ }
+    requires { ⌜ TableSizes (now table) (now roots) × StandingListed (now table) pair (now standing) count ⌝ }
     ensures { λ names. ⌜ Counted (now (table .entry)) (now (roots .entry)) pair names ⌝ }
 {
     let mut names = no_names();

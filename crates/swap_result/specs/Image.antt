@@ -21,7 +21,7 @@ use Rattle.diagrams.specs.Node.{Node, free, at, ref}
 use Rattle.diagrams.specs.Decode.{nodeAt, decode, eight, encode}
 use Rattle.diagrams.specs.Lookup.{length-decode, at-decode, rootsOf}
 use Rattle.diagrams.specs.Store.{storedAt, length-encode, stores-encode, stores-where}
-use Rattle.check_sizes.specs.Sizes.{Sized}
+use Rattle.check_sizes.specs.Sizes.{TableSizes}
 use Rattle.swap_rules.specs.Swap.{slotIndex, filled, recordAfter, swapped}
 use Rattle.swap_records.specs.Kinds.{ofAt, crossesAt}
 use Rattle.swap_records.specs.Listed.{FreeListed, Inside, inside-of}
@@ -56,7 +56,7 @@ pub record NamesFor (t names : List ℕ) : Type 0 where
 
 -- the swap is reckoned and has room, and the image has room for the table
 pub record Fillable (t r : List ℕ) (p : Pair) (crossing standing slots news kept : List ℕ) (q : Counts) (image : List ℕ) : Type 0 where
-  pub sized : Sized t r
+  pub sized : TableSizes t r
   pub small-x : p .x .0 < 256
   pub small-y : p .y .0 < 256
   pub reckoned : Reckoned t p crossing standing slots news kept q

@@ -13,7 +13,7 @@ use Rattle.orders.specs.Order.{loadOrder, exchangedOrder, Inverse}
 use Rattle.orders.specs.Load.{load-variables}
 use Rattle.orders.specs.Arranged.{bytesOf, Arranged, load-bytes, load-arranged, arranged-inverse, exchanged-bytes}
 use Rattle.orders.specs.declared.Order.{Order}
-use Rattle.check_sizes.specs.Sizes.{Sized, sized, sizes-if}
+use Rattle.check_sizes.specs.Sizes.{TableSizes, sized, sizes-if}
 use Rattle.checks.specs.Stages.{refusal, verdictOf, clear-only, row-refuses, row-passes, place-refuses, place-passes}
 use Rattle.checks.specs.Check.{checkStages}
 use Rattle.checks.specs.Usable.{passes-all}
@@ -61,7 +61,7 @@ module _ (t r o : List ℕ) (k : ℕ) (able : Swappable t r o k) where
   pub order-permuted : Permutation o
   order-permuted = able .usable .order
 
-  pub table-sized : Sized t r
+  pub table-sized : TableSizes t r
   table-sized = sized (able .usable .sizes)
 
   pub level-low : k + 1 < ceiling

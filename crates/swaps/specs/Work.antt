@@ -7,7 +7,7 @@ use lib.Dec.{leb}
 use lib.ListN.{length, take}
 use Rattle.diagrams.specs.Layout.{recordSize, mostRecords}
 use Rattle.orders.specs.Permutation.{ceiling}
-use Rattle.check_sizes.specs.Sizes.{Sized}
+use Rattle.check_sizes.specs.Sizes.{TableSizes}
 use Rattle.checks.specs.Usable.{Usable}
 use Rattle.swap_rules.specs.Swap.{xAt, yAt}
 use Rattle.swap_records.specs.declared.Pair.{Pair}
@@ -43,7 +43,7 @@ pub record Asking (t : List ℕ) (k : ℕ) : Type 0 where
 
 -- what filling the image of a table takes
 pub record Preparing (t r : List ℕ) (p : Pair) (image : List ℕ) : Type 0 where
-  pub sized : Sized t r
+  pub sized : TableSizes t r
   pub small-x : p .x .0 < 256
   pub small-y : p .y .0 < 256
   pub long : length image ≡ recordSize * mostRecords

@@ -4,7 +4,7 @@ ghost use mathlib.Core.Path.{_≡_};
 ghost use Prim.Native.Nat.{_+_, _*_, _≤_, _<_};
 ghost use lib.ListN.{length, take};
 ghost use Rattle.diagrams.specs.Layout.{mostRecords, records};
-ghost use Rattle.check_sizes.specs.Sizes.{Sized};
+ghost use Rattle.check_sizes.specs.Sizes.{TableSizes};
 ghost use Rattle.orders.specs.Permutation.{ceiling};
 ghost use Rattle.checks.specs.Stages.{verdictOf};
 ghost use Rattle.swap_reckoning.specs.Reckoned.{WorkRoom};
@@ -173,7 +173,7 @@ fn publish(table: &mut [u8], image: &[u8])
 
 // The swap of levels level and level + 1 of the table, where nothing stands in its way. The order is the caller's to exchange.
 pub fn swap_table(table: &mut [u8], roots: &[u8], order: Order, level: usize) -> Way
-    requires { ⌜ Sized (now table) (now roots) × (level + 1 < ceiling) ⌝ }
+    requires { ⌜ TableSizes (now table) (now roots) × (level + 1 < ceiling) ⌝ }
     ensures { λ w. ⌜ TableSwapped (now (table .entry)) (now (roots .entry)) (order .variables) level w (now (table .exit)) ⌝ }
 {
     let pair = pair_at(order, level);
