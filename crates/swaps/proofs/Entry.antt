@@ -1,5 +1,5 @@
 -- What the reckoning, the image and the table hold at each way out, over plain variables.
-use Prim.Native.Nat.{ℕ, _≤_, _<_}
+use Prim.Native.Nat.{ℕ, _*_, _≤_, _<_}
 use mathlib.Core.Bool.{Bool, true, false, cond}
 use mathlib.Core.List.{List, _++_, append-nil}
 use mathlib.Core.Path.{_≡_, refl, ap, ap₂, sym, _∙_}
@@ -11,6 +11,8 @@ use lib.ListN.{length, getD, set, take, drop-of-length-le}
 use Rattle.lists.specs.Apart.{apart}
 use Rattle.lists.specs.Copy.{copied, copied-first}
 use Rattle.lists.specs.Fold.{Writes, writes-end}
+use Rattle.diagrams.specs.Layout.{recordSize, mostRecords}
+use Rattle.check_sizes.specs.Sizes.{TableSizes}
 use Rattle.swap_rules.specs.Swap.{fits}
 use Rattle.swap_records.specs.declared.Pair.{Pair}
 use Rattle.swap_reckoning.specs.Reckoned.{Reckoned, needed-is, free-is}
@@ -52,22 +54,18 @@ module _ {t : List ℕ} {p : Pair} {crossing standing slots news kept : List ℕ
   counts-of = record { needed-is = needed-is R; free-is = free-is R }
 
   module _ {r image : List ℕ} where
-    pub fillable : Preparing t r p image → q .needed ≤ q .free → Fillable t r p crossing standing slots news kept q image
-    fillable a h = record {
-      sized = a .sized;
-      small-x = a .small-x;
-      small-y = a .small-y;
-      reckoned = R;
-      fit = h;
-      long = omega (arith, a .long, a .sized .few-records);
-    }
+    pub fillable : Preparing t r p → q .needed ≤ q .free → length t ≤ length image → Fillable t r p crossing standing slots news kept q image
+    fillable a h l = record { sized = a .sized; small-x = a .small-x; small-y = a .small-y; reckoned = R; fit = h; long = l }
 
     pub prepared : Filled t r p image → Prepared t r p q image
     unfolding tableAfter
-    prepared f = record { counts = counts-of; table = λ h. f .is }
+    prepared f = record { counts = counts-of; table = λ h l. f .is }
 
-    pub unprepared : q .free < q .needed → Prepared t r p q image
-    unprepared l = record { counts = counts-of; table = λ h. absurd (omega arith) }
+    pub no-room : q .free < q .needed → Prepared t r p q image
+    no-room h = record { counts = counts-of; table = λ n l. absurd (omega arith) }
+
+    pub no-image : length image < length t → Prepared t r p q image
+    no-image h = record { counts = counts-of; table = λ n l. absurd (omega arith) }
 
 -- ---- the table
 
@@ -87,8 +85,9 @@ module _ {t r o : List ℕ} {k : ℕ} {p : Pair} (P : PairAt o k p) {q : Counts}
   pub not-swapped : {l : Lack} → w ≡ way.NoRoom l → TableSwapped t r o k (way.NoRoom l) t
   not-swapped e = record { answer = sym e ∙ asked P (A .counts) by; table = refl }
 
-  pub table-swapped : {t′ : List ℕ} → w ≡ way.Clear → t′ ≡ take (length t) image → TableSwapped t r o k way.Clear t′
-  table-swapped e s = record {
+  pub table-swapped : {t′ : List ℕ} → w ≡ way.Clear → t′ ≡ take (length t) image → TableSizes t r
+      → (start : List ℕ) → length image ≡ length start → length start ≡ recordSize * mostRecords → TableSwapped t r o k way.Clear t′
+  table-swapped e s z start l m = record {
     answer = sym e ∙ asked P (A .counts) by;
-    table = s ∙ A .table (fit-by k q (sym e ∙ by)) ∙ ap₂ (tableAfter t r) (P .is-x) (P .is-y);
+    table = s ∙ A .table (fit-by k q (sym e ∙ by)) (omega (arith, z .few-records)) ∙ ap₂ (tableAfter t r) (P .is-x) (P .is-y);
   }

@@ -41,17 +41,16 @@ pub record Asking (t : List ℕ) (k : ℕ) : Type 0 where
   pub whole-records : length t % recordSize ≡ 0
   pub level : k + 1 < ceiling
 
--- what filling the image of a table takes
-pub record Preparing (t r : List ℕ) (p : Pair) (image : List ℕ) : Type 0 where
+-- what the reckoning of a swap and the filling of an image take
+pub record Preparing (t r : List ℕ) (p : Pair) : Type 0 where
   pub sized : TableSizes t r
   pub small-x : p .x .0 < 256
   pub small-y : p .y .0 < 256
-  pub long : length image ≡ recordSize * mostRecords
 
--- where there is room, the front of the image is the table afterwards
+-- where there is room, the front of an image that is long enough is the table afterwards
 pub record Prepared (t r : List ℕ) (p : Pair) (q : Counts) (image : List ℕ) : Type 0 where
   pub counts : CountsOf t p q
-  pub table : q .needed ≤ q .free → take (length t) image ≡ tableAfter t r (p .x .0) (p .y .0)
+  pub table : q .needed ≤ q .free → length t ≤ length image → take (length t) image ≡ tableAfter t r (p .x .0) (p .y .0)
 
 -- ---- the entry
 

@@ -3,13 +3,13 @@
 ghost use mathlib.Core.Path.{_≡_};
 ghost use Prim.Native.Nat.{_+_, _*_, _≤_, _<_};
 ghost use lib.ListN.{length, take};
-ghost use Rattle.diagrams.specs.Layout.{mostRecords, records};
+ghost use Rattle.diagrams.specs.Layout.{mostRecords, recordSize};
 ghost use Rattle.check_sizes.specs.Sizes.{TableSizes};
 ghost use Rattle.orders.specs.Permutation.{ceiling};
 ghost use Rattle.checks.specs.Stages.{verdictOf};
 ghost use Rattle.swap_reckoning.specs.Reckoned.{WorkRoom};
 ghost use Rattle.swaps.specs.Outcome.{wayOf, TableSwapped, swapStages, SwapOutcome};
-ghost use Rattle.swaps.specs.Work.{PairAt, CountsOf, wayBy, Asking, Preparing, Prepared, Swappable, SwapDone};
+ghost use Rattle.swaps.specs.Work.{PairAt, wayBy, Asking, Preparing, Prepared, Swappable, SwapDone};
 use checks::Refusal;
 use checks::Verdict;
 use diagrams::MOST_RECORDS;
@@ -39,7 +39,7 @@ pub enum SwapAnswer {
     Refused(Refusal),
 }
 
-// ---- asking
+// ---- two levels
 
 // The variables of levels level and level + 1.
 fn pair_at(order: Order, level: usize) -> Pair
@@ -67,43 +67,9 @@ fn way_by(level: usize, counts: Counts) -> Way
     Way::Clear
 }
 
-// How many records of each kind the swap of a pair has to do with. The reckoning goes over lists that are made for it.
-fn counts_for(table: &[u8], pair: Pair) -> Counts
-    requires { ⌜ records (now table) ≤ mostRecords ⌝ }
-    ensures { λ q. ⌜ CountsOf (now (table .entry)) pair q ⌝ }
-{
-    let mut crossing = collect::no_entries();
-    let mut standing = collect::no_entries();
-    let mut slots = collect::no_entries();
-    let mut news = news::no_news();
-    let mut kept = news::none_kept();
-    swap_reckoning::reckon(
-        table,
-        pair,
-        &mut crossing,
-        &mut standing,
-        &mut slots,
-        &mut news,
-        &mut kept,
-    )
-}
+// ---- the reckoning, and an image filled after it
 
-// What stands in the way of the swap of levels level and level + 1? Nothing is written.
-pub fn ask(table: &[u8], order: Order, level: usize) -> Way
-    requires { ⌜ Asking (now table) level ⌝ }
-    ensures { λ w. ⌜ w ≡ wayOf (now (table .entry)) (order .variables) level ⌝ }
-{
-    let pair = pair_at(order, level);
-    way_by(level, counts_for(table, pair))
-}
-
-// ---- swapping: an image is filled after the same reckoning, and then published
-
-fn no_image() -> [u8; RECORD_SIZE * MOST_RECORDS] {
-    [0u8; RECORD_SIZE * MOST_RECORDS]
-}
-
-// The swap of a pair is reckoned, and where there is room the table afterwards goes to the image.
+// The swap of a pair is reckoned. Where there is room for it, and for the table in the image, the table afterwards goes there.
 fn reckon_and_fill(
     table: &[u8],
     roots: &[u8],
@@ -115,29 +81,33 @@ fn reckon_and_fill(
     kept: &mut [u16],
     image: &mut [u8],
 ) -> Counts
-    requires { ⌜ WorkRoom (now table) (now crossing) (now standing) (now slots) (now news) (now kept) × Preparing (now table) (now roots) pair (now image) ⌝ }
+    requires { ⌜ WorkRoom (now table) (now crossing) (now standing) (now slots) (now news) (now kept) × Preparing (now table) (now roots) pair ⌝ }
     ensures { λ q. ⌜ Prepared (now (table .entry)) (now (roots .entry)) pair q (now (image .exit)) ⌝ }
 {
     let counts = swap_reckoning::reckon(table, pair, crossing, standing, slots, news, kept);
-    if counts.needed <= counts.free {
-        swap_result::fill(
-            table,
-            roots,
-            pair,
-            crossing,
-            standing,
-            slots,
-            news,
-            kept,
-            counts,
-            image,
-        );
+    if counts.free < counts.needed {
+        return counts;
     }
+    if image.len() < table.len() {
+        return counts;
+    }
+    swap_result::fill(
+        table,
+        roots,
+        pair,
+        crossing,
+        standing,
+        slots,
+        news,
+        kept,
+        counts,
+        image,
+    );
     counts
 }
 
 fn prepare(table: &[u8], roots: &[u8], pair: Pair, image: &mut [u8]) -> Counts
-    requires { ⌜ Preparing (now table) (now roots) pair (now image) ⌝ }
+    requires { ⌜ Preparing (now table) (now roots) pair ⌝ }
     ensures { λ q. ⌜ Prepared (now (table .entry)) (now (roots .entry)) pair q (now (image .exit)) ⌝ }
 {
     let mut crossing = collect::no_entries();
@@ -156,6 +126,27 @@ fn prepare(table: &[u8], roots: &[u8], pair: Pair, image: &mut [u8]) -> Counts
         &mut kept,
         image,
     )
+}
+
+// ---- asking
+
+// What stands in the way of the swap of levels level and level + 1? No image is lent, so nothing is filled.
+pub fn ask(table: &[u8], order: Order, level: usize) -> Way
+    requires { ⌜ Asking (now table) level ⌝ }
+    ensures { λ w. ⌜ w ≡ wayOf (now (table .entry)) (order .variables) level ⌝ }
+{
+    let pair = pair_at(order, level);
+    let mut none = [0u8; 0];
+    let counts = prepare(table, b"", pair, &mut none);
+    way_by(level, counts)
+}
+
+// ---- swapping
+
+fn no_image() -> [u8; RECORD_SIZE * MOST_RECORDS]
+    ensures { λ l. ⌜ length l ≡ recordSize * mostRecords ⌝ }
+{
+    [0u8; RECORD_SIZE * MOST_RECORDS]
 }
 
 // The one writer of a lent table: it knows nothing of diagrams.

@@ -1,5 +1,5 @@
 use borrow.Author.Needs.{needs}
-use Rattle.swaps.proofs.Entry.{fillable, prepared, unprepared}
+use Rattle.swaps.proofs.Entry.{no-room, no-image, fillable, prepared}
 use Rattle.swaps.proofs.reckon_and_fill.Statement.{statement}
 use Rattle.swaps.proofs.reckon_and_fill.Tie as tie
 
@@ -8,6 +8,18 @@ reckon-and-fill-spec =
     tie.close
     (tie.spec
     (λ c κs. search needs)
+    (λ c. search needs)
+    (λ c. search needs)
+    (λ c. search needs)
+    (λ c. search needs)
+    (λ c. search needs)
+    (λ c. search no-room)
+    (λ c. search needs)
+    (λ c. search needs)
+    (λ c. search needs)
+    (λ c. search needs)
+    (λ c. search needs)
+    (λ c. search no-image)
     (λ c κs. search fillable)
     (λ c. search needs)
     (λ c. search needs)
@@ -15,10 +27,4 @@ reckon-and-fill-spec =
     (λ c. search needs)
     (λ c. search needs)
     (λ c. search needs)
-    (λ c. search prepared)
-    (λ c. search needs)
-    (λ c. search needs)
-    (λ c. search needs)
-    (λ c. search needs)
-    (λ c. search needs)
-    (λ c. search unprepared))
+    (λ c. search prepared))
