@@ -7,7 +7,6 @@
 //! `compare` ask both. The cases made by hand are in `edges` and `sheet`; the
 //! rest makes random ones.
 
-mod sheet;
 mod by_hand;
 mod compare;
 mod damage;
@@ -25,6 +24,7 @@ mod printed;
 mod random;
 mod refusals;
 mod sample;
+mod sheet;
 mod slice;
 mod swap;
 mod tally;
