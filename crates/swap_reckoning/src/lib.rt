@@ -1,6 +1,5 @@
 // The reckoning of one swap: what its crossing records ask for, where each asked for is found, and how often each reference is named.
 // It reads the table and fills lists that the caller lends.
-
 ghost use mathlib.Core.Path.{_≡_};
 ghost use Rattle.swap_reckoning.specs.Searching.{withNeeded};
 ghost use Rattle.swap_reckoning.specs.Reckoned.{SortRoom, WorkRoom, Sorted, Reckoned};
@@ -19,6 +18,7 @@ pub struct Counts {
 }
 
 impl Counts {
+    // The same, with so many new records.
     fn with(self, needed: usize) -> Counts
         ensures { λ q. ⌜ q ≡ withNeeded self needed ⌝ }
     {

@@ -106,6 +106,7 @@ fn reckon_and_fill(
     counts
 }
 
+// The same over lists that are made for it. Asking and swapping share it, so that a run needs them once.
 fn prepare(table: &[u8], roots: &[u8], pair: Pair, image: &mut [u8]) -> Counts
     requires { ⌜ Preparing (now table) (now roots) pair ⌝ }
     ensures { λ q. ⌜ Prepared (now (table .entry)) (now (roots .entry)) pair q (now (image .exit)) ⌝ }
