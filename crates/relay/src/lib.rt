@@ -13,6 +13,11 @@ use reading::ReadAnswer;
 use slices::RunAnswer;
 use swaps::SwapAnswer;
 
+// The first numbers of two answers that are no refusal.
+const NO_ROOM: u32 = 100;
+
+const PAUSED: u32 = 101;
+
 // The numbers at the front of the list; how many, or 0 where they don't fit.
 fn write(list: &mut [u32], numbers: &[u32]) -> usize
     ensures { λ n. ⌜ wrote n (now (list .exit)) ≡ written (now (list .entry)) (now (numbers .entry)) ⌝ }
@@ -103,7 +108,7 @@ fn tell_swap(answer: &mut [u32], a: SwapAnswer) -> usize
         }
         SwapAnswer::NoRoom(lack) => {
             let numbers = [
-                100u32,
+                NO_ROOM,
                 lack.level as u32,
                 lack.needed as u32,
                 lack.free as u32,
@@ -143,7 +148,7 @@ fn tell_run(answer: &mut [u32], a: RunAnswer) -> usize
         }
         RunAnswer::NoRoom { swaps, left, lack } => {
             let numbers = [
-                100u32,
+                NO_ROOM,
                 swaps as u32,
                 left as u32,
                 lack.level as u32,
@@ -153,7 +158,7 @@ fn tell_run(answer: &mut [u32], a: RunAnswer) -> usize
             write(answer, &numbers)
         }
         RunAnswer::Paused { swaps, left } => {
-            let numbers = [101u32, swaps as u32, left as u32];
+            let numbers = [PAUSED, swaps as u32, left as u32];
             write(answer, &numbers)
         }
         RunAnswer::Refused(refusal) => tell_refusal(answer, refusal),
