@@ -1,3 +1,9 @@
+// The numbers of relay.h that are used here.
+const RELAY_RUN_NUMBERS: usize = 6;
+const RELAY_DONE: u32 = 0;
+const RELAY_NO_ROOM: u32 = 100;
+const RELAY_PAUSED: u32 = 101;
+
 #[link(name = "relay", kind = "static")]
 extern "C" {
     fn relay_run(
@@ -22,9 +28,9 @@ fn run<'a>(
     order: &mut [u8],
     target: &[u8],
     budget: u32,
-    answer: &'a mut [u32; 6],
+    answer: &'a mut [u32; RELAY_RUN_NUMBERS],
 ) -> &'a [u32] {
-    // Six numbers are the longest answer, so it is always written.
+    // The list holds the longest answer, so it is always written.
     let written = unsafe {
         relay_run(
             table.as_mut_ptr(),
@@ -52,10 +58,17 @@ fn main() {
     let mut order = [0, 1];
     let target = [1, 0];
     loop {
-        match *run(&mut table, &roots, &mut order, &target, 8, &mut [0; 6]) {
-            [101, ..] => continue, // the next protection pass goes here
-            [0, ..] => println!("order {} {}", order[0], order[1]),
-            [100, _, _, level, needed, free] => {
+        match *run(
+            &mut table,
+            &roots,
+            &mut order,
+            &target,
+            8,
+            &mut [0; RELAY_RUN_NUMBERS],
+        ) {
+            [RELAY_PAUSED, ..] => continue, // the next protection pass goes here
+            [RELAY_DONE, ..] => println!("order {} {}", order[0], order[1]),
+            [RELAY_NO_ROOM, _, _, level, needed, free] => {
                 println!("no room at level {level}: needed {needed}, free {free}")
             }
             [number, place] => println!("refused {number} place {place}"),

@@ -11,7 +11,7 @@
 #include "relay.h"
 
 #define LIST 8
-#define LEVELS 32
+#define LEVELS RELAY_MOST_VARIABLES
 #define UNTOUCHED UINT32_C(0xA5A55A5A)
 
 /* 0: 1 (0,1); 1: 0 (0,2); 2: free; root 3; order 0 1 */
@@ -132,8 +132,8 @@ static int check(const char *name, const uint8_t *table, size_t entries,
 
 static int checks(void)
 {
-    struct expected accepted = {2, {0, 2}, case_a, order_0_1};
-    struct expected refused = {2, {4, 2}, damaged, order_0_1};
+    struct expected accepted = {2, {RELAY_ACCEPTED, 2}, case_a, order_0_1};
+    struct expected refused = {2, {RELAY_REFUSED_MALFORMED, 2}, damaged, order_0_1};
     struct expected nothing = {0, {0}, case_a, order_0_1};
 
     return check("check A", case_a, LIST, accepted) ||
@@ -160,10 +160,10 @@ static int read_a(const char *name, uint32_t position, uint8_t input_0,
  * before, under inputs that are all 1 but perhaps the last. */
 static int read_down(const char *name, uint8_t last_input, uint32_t value)
 {
-    uint8_t table[8 * LEVELS] = {0};
+    uint8_t table[RELAY_RECORD_SIZE * LEVELS] = {0};
     uint8_t order[LEVELS];
     uint8_t inputs[LEVELS];
-    const uint8_t root[2] = {2, 0};
+    const uint8_t root[2] = {RELAY_FIRST_RECORD, 0};
     uint32_t list[LIST];
     size_t written;
     size_t entry;
@@ -171,8 +171,9 @@ static int read_down(const char *name, uint8_t last_input, uint32_t value)
     int same;
 
     for (level = 0; level < LEVELS; level++) {
-        table[8 * level] = level;
-        table[8 * level + 4] = level + 1 < LEVELS ? level + 3 : 1;
+        table[RELAY_RECORD_SIZE * level] = level;
+        table[RELAY_RECORD_SIZE * level + 4] =
+            level + 1u < LEVELS ? (uint8_t)(level + 3) : RELAY_TRUE;
         order[level] = level;
         inputs[level] = 1;
     }
@@ -182,7 +183,7 @@ static int read_down(const char *name, uint8_t last_input, uint32_t value)
     }
     written = relay_read(table, sizeof table, root, sizeof root, order,
                          sizeof order, 0, inputs, sizeof inputs, list, LIST);
-    same = written == 2 && list[0] == 0 && list[1] == value;
+    same = written == RELAY_READ_NUMBERS && list[0] == RELAY_VALUE && list[1] == value;
     for (entry = 2; entry < LIST; entry++) {
         same = same && list[entry] == UNTOUCHED;
     }
@@ -196,10 +197,12 @@ static int read_down(const char *name, uint8_t last_input, uint32_t value)
 
 static int reads(void)
 {
-    struct expected value_0 = {2, {0, 0}, case_a, order_0_1};
-    struct expected value_1 = {2, {0, 1}, case_a, order_0_1};
-    struct expected no_root = {2, {10, 1}, case_a, order_0_1};
-    struct expected no_input = {2, {11, 0}, case_a, order_0_1};
+    struct expected value_0 = {2, {RELAY_VALUE, 0}, case_a, order_0_1};
+    struct expected value_1 = {2, {RELAY_VALUE, 1}, case_a, order_0_1};
+    struct expected no_root = {
+        2, {RELAY_REFUSED_POSITION, 1}, case_a, order_0_1};
+    struct expected no_input = {
+        2, {RELAY_REFUSED_INPUTS, 0}, case_a, order_0_1};
     struct expected nothing = {0, {0}, case_a, order_0_1};
 
     return read_a("read A under 0 0", 0, 0, 0, LIST, value_0) ||
@@ -226,8 +229,10 @@ static int show(const char *name, const uint8_t *table, uint32_t position,
 
 static int shows(void)
 {
-    struct expected record_1 = {2, {8, 8}, case_a, order_0_1};
-    struct expected record_0 = {2, {0, 8}, case_a, order_0_1};
+    struct expected record_1 = {
+        2, {RELAY_RECORD_SIZE, RELAY_RECORD_SIZE}, case_a, order_0_1};
+    struct expected record_0 = {
+        2, {0, RELAY_RECORD_SIZE}, case_a, order_0_1};
     struct expected no_root = {2, {0, 0}, case_a, order_0_1};
     struct expected refused = {2, {0, 0}, damaged, order_0_1};
     struct expected nothing = {0, {0}, case_a, order_0_1};
@@ -254,14 +259,16 @@ static int swaps(void)
     struct lent a = lend(case_a, WHOLE, ONE_ROOT);
     struct lent b = lend(case_a, WITHOUT_LAST, ONE_ROOT);
     struct lent c = lend(case_a, WHOLE, TWO_ROOTS);
-    struct expected made = {1, {0}, case_a_after, order_1_0};
-    struct expected made_c = {1, {0}, case_c_after, order_1_0};
-    struct expected no_room = {4, {100, 0, 1, 0}, case_a, order_0_1};
-    struct expected no_level = {2, {12, 1}, case_a, order_0_1};
+    struct expected made = {1, {RELAY_MADE}, case_a_after, order_1_0};
+    struct expected made_c = {1, {RELAY_MADE}, case_c_after, order_1_0};
+    struct expected no_room = {
+        4, {RELAY_NO_ROOM, 0, 1, 0}, case_a, order_0_1};
+    struct expected no_level = {
+        2, {RELAY_REFUSED_LEVEL, 1}, case_a, order_0_1};
     struct expected nothing = {0, {0}, case_a, order_0_1};
 
     return swap("swap A", a, 0, LIST, made) ||
-           swap("swap A, list of 4", a, 0, 4, made) ||
+           swap("swap A, list of 4", a, 0, RELAY_SWAP_NUMBERS, made) ||
            swap("swap B", b, 0, LIST, no_room) ||
            swap("swap C", c, 0, LIST, made_c) ||
            swap("swap A, level 1", a, 1, LIST, no_level) ||
@@ -284,17 +291,20 @@ static int runs(void)
     struct lent a = lend(case_a, WHOLE, ONE_ROOT);
     struct lent b = lend(case_a, WITHOUT_LAST, ONE_ROOT);
     struct lent c = lend(case_a, WHOLE, TWO_ROOTS);
-    struct expected done = {3, {0, 1, 0}, case_a_after, order_1_0};
-    struct expected done_c = {3, {0, 1, 0}, case_c_after, order_1_0};
-    struct expected there = {3, {0, 0, 0}, case_a, order_0_1};
-    struct expected paused = {3, {101, 0, 1}, case_a, order_0_1};
+    struct expected done = {3, {RELAY_DONE, 1, 0}, case_a_after, order_1_0};
+    struct expected done_c = {
+        3, {RELAY_DONE, 1, 0}, case_c_after, order_1_0};
+    struct expected there = {3, {RELAY_DONE, 0, 0}, case_a, order_0_1};
+    struct expected paused = {3, {RELAY_PAUSED, 0, 1}, case_a, order_0_1};
     struct expected no_room = {
-        6, {100, 0, 1, 0, 1, 0}, case_a, order_0_1};
-    struct expected refused = {2, {3, 1}, case_a, order_0_1};
+        6, {RELAY_NO_ROOM, 0, 1, 0, 1, 0}, case_a, order_0_1};
+    struct expected refused = {
+        2, {RELAY_REFUSED_TARGET, 1}, case_a, order_0_1};
     struct expected nothing = {0, {0}, case_a, order_0_1};
 
     return run("run A", a, order_1_0, 1, LIST, done) ||
-           run("run A, list of 6", a, order_1_0, UINT32_MAX, 6, done) ||
+           run("run A, list of 6", a, order_1_0, UINT32_MAX, RELAY_RUN_NUMBERS,
+               done) ||
            run("run A, budget 0", a, order_1_0, 0, LIST, paused) ||
            run("run A, target 0 1", a, order_0_1, 0, LIST, there) ||
            run("run A, target 1 1", a, order_1_1, 1, LIST, refused) ||

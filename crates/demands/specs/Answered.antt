@@ -48,7 +48,7 @@ module _ (t r o : List ℕ) where
 
   -- refused with k at p exactly where check k fails first, at p
   pub check-refused : (k p : ℕ) → Exactly (checkOf t r o ≡ checked.Refused (refusal k p)) (FailsFirst (checkStages t r o) k p)
-  check-refused k p = record { where-ever = check.refuses t r o k p; only = check.refuses-only t r o k p }
+  check-refused k p = record { wherever = check.refuses t r o k p; only = check.refuses-only t r o k p }
 
   pub check-one : {a b : CheckAnswer} → CheckOutcome t r o a → CheckOutcome t r o b → a ≡ b
   check-one = check.check-one t r o
@@ -57,11 +57,11 @@ module _ (t r o : List ℕ) where
 
   module _ (position : ℕ) (inputs : List ℕ) where
     pub read-refused : (k p : ℕ) → Exactly (readOf t r o position inputs ≡ reads.Refused (refusal k p)) (FailsFirst (readStages t r o position inputs) k p)
-    read-refused k p = record { where-ever = read.read-refuses t r o position inputs k p; only = read.read-refuses-only t r o position inputs k p }
+    read-refused k p = record { wherever = read.read-refuses t r o position inputs k p; only = read.read-refuses-only t r o position inputs k p }
 
     -- the value b exactly where the table can be used, the position exists, the inputs are n bytes of 0 or 1, and the root there has the value b
     pub read-value : (b : Bool) → Exactly (readOf t r o position inputs ≡ reads.Value (bit b)) (Reads t r o position inputs b)
-    read-value b = record { where-ever = read.reads-if t r o position inputs; only = read.reads-only t r o position inputs }
+    read-value b = record { wherever = read.reads-if t r o position inputs; only = read.reads-only t r o position inputs }
 
     pub read-one : {a b : ReadAnswer} → ReadOutcome t r o position inputs a → ReadOutcome t r o position inputs b → a ≡ b
     read-one = read.read-one t r o position inputs
@@ -71,7 +71,7 @@ module _ (t r o : List ℕ) where
   module _ (position : ℕ) where
     -- the part is empty exactly for a refused table, no such root, or a constant root
     pub show-nothing : Exactly (partOf t r o position ≡ noPart) (Nothing t r o position)
-    show-nothing = record { where-ever = show.no-part-if t r o position; only = show.no-part-only t r o position }
+    show-nothing = record { wherever = show.no-part-if t r o position; only = show.no-part-only t r o position }
 
     -- otherwise it is the place of the record that the root names, which lies in the table
     pub show-something : (Nothing t r o position → ⊥) → (w : Something t r o position) × (partOf t r o position ≡ partAt (w .i))
@@ -90,20 +90,20 @@ module _ (t r o : List ℕ) where
 
   module _ (k : ℕ) where
     pub swap-refused : (n p : ℕ) → Exactly (swapOf t r o k .answer ≡ swaps.Refused (refusal n p)) (FailsFirst (swapStages t r o k) n p)
-    swap-refused n p = record { where-ever = λ f. ap (λ s. s .answer) (swap.swap-refuses t r o k n p f); only = swap.swap-refuses-only t r o k n p }
+    swap-refused n p = record { wherever = λ f. ap (λ s. s .answer) (swap.swap-refuses t r o k n p f); only = swap.swap-refuses-only t r o k n p }
 
     -- no room exactly for a table that can be used and two of its levels, where more records are needed than are free; with the level and these two numbers
     pub swap-no-room : (l : Lack) → Exactly (swapOf t r o k .answer ≡ swaps.NoRoom l)
         ((Usable t r o × (k + 1 < length o)) × (freeIn t < Needed t o k) × (l ≡ lack k (Needed t o k) (freeIn t)))
     swap-no-room l = record {
-      where-ever = λ w. ap (λ s. s .answer) (swap.swap-lacks t r o k (w .0 .0) (w .0 .1) (w .1)) ∙ ap swaps.NoRoom (sym (w .2));
+      wherever = λ w. ap (λ s. s .answer) (swap.swap-lacks t r o k (w .0 .0) (w .0 .1) (w .1)) ∙ ap swaps.NoRoom (sym (w .2));
       only = swap.lacks-only t r o k l;
     }
 
     -- made exactly where they are not more
     pub swap-made : Exactly (swapOf t r o k .answer ≡ swaps.Made) ((Usable t r o × (k + 1 < length o)) × (Needed t o k ≤ freeIn t))
     swap-made = record {
-      where-ever = λ w. ap (λ s. s .answer) (swap.swap-made t r o k (w .0 .0) (w .0 .1) (w .1));
+      wherever = λ w. ap (λ s. s .answer) (swap.swap-made t r o k (w .0 .0) (w .0 .1) (w .1));
       only = λ e. let w = swap.made-only t r o k e in (w .0, swap.fits-then t o k (w .1));
     }
 
@@ -127,7 +127,7 @@ module _ (t r o : List ℕ) where
 
     pub run-refused : (k p : ℕ) → Exactly (ran .answer ≡ runs.Refused (refusal k p)) (FailsFirst (runStages plainSwap t r o g) k p)
     run-refused k p = record {
-      where-ever = λ f. ap (λ w. w .answer) (run.run-refuses plainSwap bringUp t r o g budget k p f);
+      wherever = λ f. ap (λ w. w .answer) (run.run-refuses plainSwap bringUp t r o g budget k p f);
       only = run.run-refuses-only plainSwap bringUp t r o g budget k p;
     }
 

@@ -32,7 +32,7 @@ module _ (t r o : List ℕ) where
   -- accepted, with c used records, exactly for a table that can be used and has so many. `Usable`: right sizes, an order that is a permutation, zeros
   -- where nothing is told, and a diagram in Bryant's sense
   pub accepted : (c : ℕ) → Exactly (checkOf t r o ≡ checked.Accepted c) (Usable t r o × (c ≡ used t))
-  accepted c = record { where-ever = λ w. check.accepts t r o (w .0) ∙ ap checked.Accepted (sym (w .1)); only = check.accepts-only t r o c }
+  accepted c = record { wherever = λ w. check.accepts t r o (w .0) ∙ ap checked.Accepted (sym (w .1)); only = check.accepts-only t r o c }
 
   -- ---- a swap that is made
 
