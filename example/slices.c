@@ -19,7 +19,7 @@ int main(void)
     }
     do {
         relay_run(table, sizeof table, roots, sizeof roots, order, sizeof order,
-                  target, sizeof target, 8, answer, RELAY_RUN_NUMBERS);
+                  target, sizeof target, RELAY_BRING_UP, 8, answer, RELAY_RUN_NUMBERS);
         /* the next protection pass goes here */
     } while (answer[0] == RELAY_PAUSED);
 

@@ -1,5 +1,6 @@
 // The numbers of relay.h that are used here.
 const RELAY_RUN_NUMBERS: usize = 6;
+const RELAY_BRING_UP: u32 = 0;
 const RELAY_DONE: u32 = 0;
 const RELAY_NO_ROOM: u32 = 100;
 const RELAY_PAUSED: u32 = 101;
@@ -15,6 +16,7 @@ extern "C" {
         order_length: usize,
         target: *const u8,
         target_length: usize,
+        plan: u32,
         budget: u32,
         answer: *mut u32,
         answer_length: usize,
@@ -27,6 +29,7 @@ fn run<'a>(
     roots: &[u8],
     order: &mut [u8],
     target: &[u8],
+    plan: u32,
     budget: u32,
     answer: &'a mut [u32; RELAY_RUN_NUMBERS],
 ) -> &'a [u32] {
@@ -41,6 +44,7 @@ fn run<'a>(
             order.len(),
             target.as_ptr(),
             target.len(),
+            plan,
             budget,
             answer.as_mut_ptr(),
             answer.len(),
@@ -63,6 +67,7 @@ fn main() {
             &roots,
             &mut order,
             &target,
+            RELAY_BRING_UP,
             8,
             &mut [0; RELAY_RUN_NUMBERS],
         ) {

@@ -22,7 +22,7 @@
 #include <stddef.h>
 #include <stdint.h>
 
-#define RELAY_VERSION 1u
+#define RELAY_VERSION 2u
 
 /* Sizes and limits. */
 #define RELAY_RECORD_SIZE 8u
@@ -36,6 +36,13 @@
 #define RELAY_FALSE 0u
 #define RELAY_TRUE 1u
 #define RELAY_FIRST_RECORD 2u
+
+/* The plans: which pair of neighbouring levels a run swaps next. It is always an inverted pair, one that stands the other way
+ * round in the target, so that by every plan a job takes as many swaps as there are inversions. */
+#define RELAY_BRING_UP 0u          /* the target's variable of the topmost level that differs goes up by one level */
+#define RELAY_SINK_DOWN 1u         /* the target's variable of the lowest level that differs goes down by one level */
+#define RELAY_LOWEST_INVERSION 2u  /* the inverted pair nearest the bottom */
+#define RELAY_HIGHEST_INVERSION 3u /* the inverted pair nearest the top */
 
 /* The first number of an answer: what came of the call, or the number of a refusal. */
 #define RELAY_ACCEPTED 0u /* Check */
@@ -57,6 +64,7 @@
 #define RELAY_REFUSED_POSITION 10u /* no such root; the position asked for */
 #define RELAY_REFUSED_INPUTS 11u   /* not n inputs, or one not 0 or 1; place 0 */
 #define RELAY_REFUSED_LEVEL 12u    /* no such level; the level asked for */
+#define RELAY_REFUSED_PLAN 13u     /* no such plan; the number given */
 
 /* How many numbers the longest answer of each call has. */
 #define RELAY_CHECK_NUMBERS 2u
@@ -112,17 +120,18 @@ size_t relay_swap(uint8_t *table, size_t table_length,
                   uint32_t level,
                   uint32_t *answer, size_t answer_length);
 
-/* Run one slice towards the target, with a budget of swaps. The swaps made change `table` and `order`; a
+/* Run one slice towards the target by a plan, with a budget of swaps. The swaps made change `table` and `order`; a
  * refusal leaves both as they are. `answer` holds RELAY_RUN_NUMBERS or more, whatever the answer will be.
  *   done:    RELAY_DONE, swaps made in this slice, left (0)
  *   no room: RELAY_NO_ROOM, swaps, left, the upper level of the next pair, needed, free
  *   paused:  RELAY_PAUSED, swaps, left
- *   refused: the refusal's number (1 to 9), its place
+ *   refused: the refusal's number (1 to 9, 13), its place; 13 is judged last
  */
 size_t relay_run(uint8_t *table, size_t table_length,
                  const uint8_t *roots, size_t roots_length,
                  uint8_t *order, size_t order_length,
                  const uint8_t *target, size_t target_length,
+                 uint32_t plan,
                  uint32_t budget,
                  uint32_t *answer, size_t answer_length);
 

@@ -1,8 +1,11 @@
 /* The library as C sees it: its header, its static archive, and the answers of
- * each call for cases of the bench sheet, whole and damaged. The answers and
- * the buffers afterwards are written out by hand. */
+ * each call for cases of the bench sheet, whole and damaged, in 256 KiB of
+ * stack. The answers and the buffers afterwards are written out by hand. */
+
+#define _POSIX_C_SOURCE 200809L
 
 #include <inttypes.h>
+#include <pthread.h>
 #include <stddef.h>
 #include <stdint.h>
 #include <stdio.h>
@@ -10,6 +13,7 @@
 
 #include "relay.h"
 
+#define STACK (256 * 1024)
 #define LIST 8
 #define LEVELS RELAY_MOST_VARIABLES
 #define UNTOUCHED UINT32_C(0xA5A55A5A)
@@ -276,14 +280,29 @@ static int swaps(void)
            swap("swap A, list of 0", a, 0, 0, nothing);
 }
 
-static int run(const char *name, struct lent lent, const uint8_t *target,
-               uint32_t budget, size_t entries, struct expected expected)
+static int run_by(uint32_t plan, const char *name, struct lent lent,
+                  const uint8_t *target, uint32_t budget, size_t entries,
+                  struct expected expected)
 {
     size_t written =
         relay_run(lent.table, lent.table_length, lent.roots,
                   lent.roots_length, lent.order, sizeof lent.order, target, 2,
-                  budget, lent.list, entries);
+                  plan, budget, lent.list, entries);
     return differs(name, &lent, written, expected);
+}
+
+/* Two variables have one pair, which every plan swaps. */
+static int run(const char *name, struct lent lent, const uint8_t *target,
+               uint32_t budget, size_t entries, struct expected expected)
+{
+    return run_by(RELAY_BRING_UP, name, lent, target, budget, entries,
+                  expected) ||
+           run_by(RELAY_SINK_DOWN, name, lent, target, budget, entries,
+                  expected) ||
+           run_by(RELAY_LOWEST_INVERSION, name, lent, target, budget, entries,
+                  expected) ||
+           run_by(RELAY_HIGHEST_INVERSION, name, lent, target, budget,
+                  entries, expected);
 }
 
 static int runs(void)
@@ -315,11 +334,49 @@ static int runs(void)
            run("run A, list of 0", a, order_1_0, 1, 0, nothing);
 }
 
+/* A number that no plan has is refused with that number as its place, after
+ * the other refusals. */
+static int refused_plan(uint32_t plan)
+{
+    struct lent a = lend(case_a, WHOLE, ONE_ROOT);
+    struct lent spoilt = lend(damaged, WHOLE, ONE_ROOT);
+    struct expected no_plan = {
+        2, {RELAY_REFUSED_PLAN, plan}, case_a, order_0_1};
+    struct expected malformed = {
+        2, {RELAY_REFUSED_MALFORMED, 2}, damaged, order_0_1};
+    struct expected nothing = {0, {0}, case_a, order_0_1};
+
+    return run_by(plan, "run A, no such plan", a, order_1_0, 1, LIST, no_plan) ||
+           run_by(plan, "run A damaged, no such plan", spoilt, order_1_0, 1,
+                  LIST, malformed) ||
+           run_by(plan, "run A, no such plan, list of 5", a, order_1_0, 1, 5,
+                  nothing);
+}
+
+/* Every case; the first that differs is told. */
+static void *cases(void *wrong)
+{
+    *(int *)wrong = checks() || reads() || shows() || swaps() || runs() ||
+                    refused_plan(RELAY_HIGHEST_INVERSION + 1) ||
+                    refused_plan(256) || refused_plan(UINT32_MAX);
+    return NULL;
+}
+
+/* A thread's stack is bounded on every machine, in an emulator too. */
 int main(void)
 {
-    if (checks() || reads() || shows() || swaps() || runs()) {
+    int wrong = 1;
+    pthread_t thread;
+    pthread_attr_t attributes;
+
+    if (pthread_attr_init(&attributes) != 0 ||
+        pthread_attr_setstacksize(&attributes, STACK) != 0 ||
+        pthread_create(&thread, &attributes, cases, &wrong) != 0 ||
+        pthread_join(thread, NULL) != 0) {
+        puts("boundary: no thread with a stack of its own");
         return 1;
     }
-    puts("boundary: C gets the answers of the rules");
-    return 0;
+    if (!wrong)
+        puts("boundary: C gets the answers of the rules");
+    return wrong;
 }

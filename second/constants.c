@@ -1,5 +1,5 @@
-/* The numbers that relay.h names, held to what the library does: a call provokes each refusal and each answer, and each limit is met and passed
- * by one. */
+/* The numbers that relay.h names, held to what the library does: a call provokes each refusal and each answer, the first swap tells each plan, and
+ * each limit is met and passed by one. */
 
 #include <stddef.h>
 #include <stdint.h>
@@ -41,9 +41,9 @@ static uint32_t check(size_t records, size_t root_count)
     return answer[0];
 }
 
-static uint32_t run(size_t records, size_t root_count, uint32_t budget)
+static uint32_t run(size_t records, size_t root_count, uint32_t plan, uint32_t budget)
 {
-    relay_run(table, records * RELAY_RECORD_SIZE, roots, root_count * RELAY_ROOT_SIZE, order, 2, target, 2, budget, answer, RELAY_RUN_NUMBERS);
+    relay_run(table, records * RELAY_RECORD_SIZE, roots, root_count * RELAY_ROOT_SIZE, order, 2, target, 2, plan, budget, answer, RELAY_RUN_NUMBERS);
     return answer[0];
 }
 
@@ -78,17 +78,18 @@ static void answers(void)
     expect("RELAY_RECORD_SIZE", answer[1], RELAY_RECORD_SIZE);
     expect("a shorter list for Show", (uint32_t)relay_show(table, 24, roots, 2, order, 2, 0, answer, RELAY_SHOW_NUMBERS - 1), 0);
 
-    expect("RELAY_PAUSED", run(3, 1, 0), RELAY_PAUSED);
+    expect("RELAY_PAUSED", run(3, 1, RELAY_BRING_UP, 0), RELAY_PAUSED);
     expect("RELAY_NO_ROOM of Run",
-           (uint32_t)relay_run(table, 16, roots, 2, order, 2, target, 2, 1, answer, RELAY_RUN_NUMBERS), RELAY_RUN_NUMBERS);
+           (uint32_t)relay_run(table, 16, roots, 2, order, 2, target, 2, RELAY_BRING_UP, 1, answer, RELAY_RUN_NUMBERS), RELAY_RUN_NUMBERS);
     expect("RELAY_NO_ROOM of Run", answer[0], RELAY_NO_ROOM);
-    expect("a shorter list for Run", (uint32_t)relay_run(table, 24, roots, 2, order, 2, target, 2, 1, answer, RELAY_RUN_NUMBERS - 1), 0);
+    expect("a shorter list for Run",
+           (uint32_t)relay_run(table, 24, roots, 2, order, 2, target, 2, RELAY_BRING_UP, 1, answer, RELAY_RUN_NUMBERS - 1), 0);
     expect("RELAY_SWAP_NUMBERS", (uint32_t)relay_swap(table, 16, roots, 2, order, 2, 0, answer, RELAY_SWAP_NUMBERS), RELAY_SWAP_NUMBERS);
     expect("RELAY_NO_ROOM of Swap", answer[0], RELAY_NO_ROOM);
     expect("a shorter list for Swap", (uint32_t)relay_swap(table, 24, roots, 2, order, 2, 0, answer, RELAY_SWAP_NUMBERS - 1), 0);
     relay_swap(table, 24, roots, 2, order, 2, 0, answer, RELAY_SWAP_NUMBERS);
     expect("RELAY_MADE", answer[0], RELAY_MADE);
-    expect("RELAY_DONE", run(3, 1, 0), RELAY_DONE);
+    expect("RELAY_DONE", run(3, 1, RELAY_BRING_UP, 0), RELAY_DONE);
     expect("RELAY_FREE", table[0], RELAY_FREE);
     expect("RELAY_MOST_NUMBERS", RELAY_MOST_NUMBERS, RELAY_RUN_NUMBERS);
 }
@@ -104,7 +105,7 @@ static void refusals(void)
     expect("RELAY_REFUSED_ORDER", check(3, 1), RELAY_REFUSED_ORDER);
     case_a();
     target[0] = 0;
-    expect("RELAY_REFUSED_TARGET", run(3, 1, 1), RELAY_REFUSED_TARGET);
+    expect("RELAY_REFUSED_TARGET", run(3, 1, RELAY_BRING_UP, 1), RELAY_REFUSED_TARGET);
     case_a();
     table[1] = 1;
     expect("RELAY_REFUSED_MALFORMED", check(3, 1), RELAY_REFUSED_MALFORMED);
@@ -128,6 +129,36 @@ static void refusals(void)
     expect("RELAY_REFUSED_INPUTS", answer[0], RELAY_REFUSED_INPUTS);
     relay_swap(table, 24, roots, 2, order, 2, 1, answer, RELAY_SWAP_NUMBERS);
     expect("RELAY_REFUSED_LEVEL", answer[0], RELAY_REFUSED_LEVEL);
+    expect("RELAY_REFUSED_PLAN", run(3, 1, RELAY_HIGHEST_INVERSION + 1, 1), RELAY_REFUSED_PLAN);
+    expect("the place of RELAY_REFUSED_PLAN", answer[1], RELAY_HIGHEST_INVERSION + 1);
+    expect("RELAY_REFUSED_PLAN, by far", run(3, 1, UINT32_MAX, 1), RELAY_REFUSED_PLAN);
+    expect("the place of RELAY_REFUSED_PLAN, by far", answer[1], UINT32_MAX);
+}
+
+/* The upper level of the first pair that a plan swaps, from order 2 1 0 5 4 3 to 0 1 2 3 4 5: another one for each plan. */
+static uint32_t first_pair(uint32_t plan)
+{
+    const uint8_t before[6] = {2, 1, 0, 5, 4, 3};
+    uint32_t level;
+
+    memcpy(order, before, sizeof before);
+    for (level = 0; level < 6; level++) {
+        target[level] = (uint8_t)level;
+    }
+    relay_run(table, 0, roots, 0, order, 6, target, 6, plan, 1, answer, RELAY_RUN_NUMBERS);
+    level = 0;
+    while (level < 6 && order[level] == before[level]) {
+        level++;
+    }
+    return level;
+}
+
+static void plans(void)
+{
+    expect("RELAY_BRING_UP", first_pair(RELAY_BRING_UP), 1);
+    expect("RELAY_SINK_DOWN", first_pair(RELAY_SINK_DOWN), 3);
+    expect("RELAY_LOWEST_INVERSION", first_pair(RELAY_LOWEST_INVERSION), 4);
+    expect("RELAY_HIGHEST_INVERSION", first_pair(RELAY_HIGHEST_INVERSION), 0);
 }
 
 /* Each limit is taken, and one more is refusal 1. */
@@ -166,6 +197,7 @@ int main(void)
 {
     answers();
     refusals();
+    plans();
     limits();
     return failures != 0;
 }

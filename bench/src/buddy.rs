@@ -31,16 +31,11 @@ pub fn microseconds(program: &OsStr, case: &Case, repetitions: usize) -> Result<
     let [time, before, after] = fields[..] else {
         return Err(format!("printed {printed:?}"));
     };
-    let nodes = [used(&case.before), used(&case.after)].map(|count| count.to_string());
+    let nodes = [&case.before, &case.after].map(|buffers| buffers.used().to_string());
     if [before, after] != nodes {
         return Err(format!("has {before} and {after} nodes, not {nodes:?}"));
     }
     time.parse().map_err(|_| format!("printed {printed:?}"))
-}
-
-fn used(buffers: &Buffers) -> usize {
-    let records = buffers.table.chunks_exact(8);
-    records.filter(|record| record[0] != 255).count()
 }
 
 /// Numbers of variables, records and roots; order; target; records as variable,

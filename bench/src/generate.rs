@@ -1,12 +1,19 @@
-//! Full tables: random functions of some of the 32 variables, as many of them
-//! as leave the room that the reversal of the order needs.
+//! Tables of random functions of some of the variables: full ones to be timed,
+//! with the room that the reversal of the order needs, and random jobs in tables
+//! that are full to a share.
 
 use std::collections::HashMap;
 
-use crate::ordinary::{self, Answer};
+use crate::ordinary::{self, Answer, Plan};
 
+/// The plan by which full tables are reversed, and timed.
+pub const PLAN: Plan = Plan::BringUp;
+/// The sizes of a full table.
 pub const RECORDS: usize = 4_096;
 const VARIABLES: usize = 32;
+/// The sizes of a job's table.
+pub const JOB_RECORDS: usize = 512;
+pub const JOB_VARIABLES: usize = 16;
 const ROOTS: usize = 64;
 /// The fewest inputs of a root that fills up the rest.
 const FEWEST: usize = 4;
@@ -19,9 +26,16 @@ pub struct Buffers {
     pub order: Vec<u8>,
 }
 
+impl Buffers {
+    /// The number of used records.
+    pub fn used(&self) -> usize {
+        let records = self.table.chunks_exact(8);
+        records.filter(|record| record[0] != 255).count()
+    }
+}
+
 pub struct Case {
     pub name: String,
-    pub used: usize,
     pub before: Buffers,
     pub after: Buffers,
     /// The order of `before`, reversed.
@@ -29,46 +43,58 @@ pub struct Case {
     pub swaps: u32,
 }
 
-/// Adds roots of that many inputs, and then of fewer and fewer, each as long
-/// as the reversal still finds room in every swap.
+/// Roots of that many inputs, and then of fewer and fewer, as long as the
+/// reversal still finds room in every swap.
 pub fn full(seed: u64, most: usize) -> Case {
     let mut random = Random::new(seed);
     let order = random.permutation(VARIABLES);
     let target: Vec<u8> = order.iter().rev().copied().collect();
+    let reversed = |diagram: &Diagram| {
+        let before = diagram.table(seed, RECORDS, &order)?;
+        let mut after = before.clone();
+        match ordinary::run(&mut after, &target, PLAN, u32::MAX) {
+            Answer::Done { swaps } => Some((before, after, swaps)),
+            _ => None,
+        }
+    };
 
     let mut diagram = Diagram::default();
-    let mut best = None;
-    let mut of_most = 0;
-    let mut inputs = most;
-    while inputs >= FEWEST && diagram.roots.len() < ROOTS {
-        let mut larger = diagram.clone();
-        larger.add_root(&mut random, &order, inputs);
-        let fitting = larger.table(seed, &order).and_then(|before| {
-            let mut after = before.clone();
-            match ordinary::run(&mut after, &target, u32::MAX) {
-                Answer::Done { swaps } => Some((before, after, swaps)),
-                _ => None,
-            }
-        });
-        match fitting {
-            Some(fitting) => {
-                best = Some(fitting);
-                diagram = larger;
-                of_most += usize::from(inputs == most);
-            }
-            None => inputs -= 1,
-        }
-    }
-
-    let (before, after, swaps) = best.expect("one small root fits");
+    let of_most = diagram.fill(&mut random, &order, most, |larger| {
+        reversed(larger).is_some()
+    });
+    let (before, after, swaps) = reversed(&diagram).expect("what fits is reversed");
     let smaller = diagram.roots.len() - of_most;
     Case {
         name: format!("{of_most} roots of {most} inputs and {smaller} of fewer"),
-        used: diagram.records.len(),
         before,
         after,
         target,
         swaps,
+    }
+}
+
+/// A table with its roots and order, and the order to bring it to.
+pub struct Job {
+    pub before: Buffers,
+    pub target: Vec<u8>,
+}
+
+/// Roots of that many inputs, and then of fewer and fewer, up to that share of
+/// the records in per cent.
+pub fn job(seed: u64, most: usize, percent: usize) -> Job {
+    let mut random = Random::new(seed);
+    let order = random.permutation(JOB_VARIABLES);
+    let target = random.permutation(JOB_VARIABLES);
+    let limit = JOB_RECORDS * percent / 100;
+
+    let mut diagram = Diagram::default();
+    diagram.fill(&mut random, &order, most, |larger| {
+        larger.records.len() <= limit
+    });
+    let before = diagram.table(seed, JOB_RECORDS, &order);
+    Job {
+        before: before.expect("a share of the records fits"),
+        target,
     }
 }
 
@@ -82,6 +108,30 @@ struct Diagram {
 }
 
 impl Diagram {
+    /// Adds roots of that many inputs, and then of fewer and fewer, each as long
+    /// as the larger diagram fits; tells how many are of that many.
+    fn fill(
+        &mut self,
+        random: &mut Random,
+        order: &[u8],
+        most: usize,
+        fits: impl Fn(&Diagram) -> bool,
+    ) -> usize {
+        let mut of_most = 0;
+        let mut inputs = most;
+        while inputs >= FEWEST && self.roots.len() < ROOTS {
+            let mut larger = self.clone();
+            larger.add_root(random, order, inputs);
+            if fits(&larger) {
+                *self = larger;
+                of_most += usize::from(inputs == most);
+            } else {
+                inputs -= 1;
+            }
+        }
+        of_most
+    }
+
     fn add_root(&mut self, random: &mut Random, order: &[u8], inputs: usize) {
         let mut levels = random.permutation(order.len());
         levels.truncate(inputs);
@@ -109,17 +159,18 @@ impl Diagram {
         })
     }
 
-    /// The records at random numbers of a table; none if it is too short.
-    fn table(&self, seed: u64, order: &[u8]) -> Option<Buffers> {
-        if self.records.len() > RECORDS {
+    /// The records at random numbers of a table of that length; none if it is
+    /// too short.
+    fn table(&self, seed: u64, length: usize, order: &[u8]) -> Option<Buffers> {
+        if self.records.len() > length {
             return None;
         }
-        let numbers = Random::new(seed).shuffled((0..RECORDS as u16).collect());
+        let numbers = Random::new(seed).shuffled((0..length as u16).collect());
         let reference = |r: usize| match r {
             0 | 1 => (r as u16).to_le_bytes(),
             _ => (numbers[r - 2] + 2).to_le_bytes(),
         };
-        let mut table = [255, 0, 0, 0, 0, 0, 0, 0].repeat(RECORDS);
+        let mut table = [255, 0, 0, 0, 0, 0, 0, 0].repeat(length);
         for (&number, &(variable, low, high)) in numbers.iter().zip(&self.records) {
             let bytes = &mut table[number as usize * 8..][..8];
             bytes[0] = variable;

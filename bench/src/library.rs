@@ -1,8 +1,14 @@
-//! The three calls that are timed, each behind one safe function. Each writes
-//! the answer's numbers into the lent list and tells how many it wrote.
+//! The three calls that the bench makes, each behind one safe function. Each
+//! writes the answer's numbers into the lent list and tells how many it wrote.
 
 use crate::entries::{relay_check, relay_run, relay_swap};
 use crate::generate::Buffers;
+use crate::ordinary::Plan;
+
+/// The first number of a run's answer, where it isn't a refusal's.
+pub const DONE: u32 = 0;
+pub const NO_ROOM: u32 = 100;
+pub const PAUSED: u32 = 101;
 
 // SAFETY, for each call below: each pointer comes with the length of the live
 // buffer that it points to, no two of the buffers overlap, and those that the
@@ -41,7 +47,13 @@ pub fn swap(buffers: &mut Buffers, level: u32, answer: &mut [u32; 6]) -> usize {
     }
 }
 
-pub fn run(buffers: &mut Buffers, target: &[u8], budget: u32, answer: &mut [u32; 6]) -> usize {
+pub fn run(
+    buffers: &mut Buffers,
+    target: &[u8],
+    plan: Plan,
+    budget: u32,
+    answer: &mut [u32; 6],
+) -> usize {
     let (table, roots, order) = (&mut buffers.table, &buffers.roots, &mut buffers.order);
     unsafe {
         relay_run(
@@ -53,6 +65,7 @@ pub fn run(buffers: &mut Buffers, target: &[u8], budget: u32, answer: &mut [u32;
             order.len(),
             target.as_ptr(),
             target.len(),
+            plan as u32,
             budget,
             answer.as_mut_ptr(),
             answer.len(),

@@ -1,197 +1,36 @@
-//! Times of the library beside those of an ordinary Rust program, and of BuDDy
-//! where the variable BUDDY names the program made of buddy.c.
-//!
-//! Both sides take turns on the same tables; of each the least time is shown.
+//! Times of the library beside other programs, and how far its plans come.
 
 mod buddy;
-// Read and Show are not timed.
-#[allow(dead_code)]
-#[path = "../../second/src/entries.rs"]
 mod entries;
 mod generate;
 mod library;
 mod ordinary;
+mod plans;
+mod times;
 
 use std::env;
-use std::hint::black_box;
 use std::process::ExitCode;
-use std::time::Instant;
-
-use generate::{Buffers, Case, RECORDS};
-use ordinary::{planned, Answer};
-
-const USAGE: &str = "usage: bench [REPETITIONS], a number from 1 to 10000";
 
 fn main() -> ExitCode {
     let arguments: Option<Vec<String>> = env::args_os()
         .skip(1)
         .map(|a| a.into_string().ok())
         .collect();
-    let repetitions = match arguments.as_deref() {
-        Some([]) => Some(10),
-        Some([number]) => number.parse().ok().filter(|n| (1..=10_000).contains(n)),
-        _ => None,
-    };
-    let Some(repetitions) = repetitions else {
-        eprintln!("{USAGE}");
-        return ExitCode::from(2);
-    };
-
-    for (seed, inputs) in [(1, 8), (2, 13)] {
-        let case = generate::full(seed, inputs);
-        println!(
-            "{}: {} of {RECORDS} records used, order reversed in {} swaps",
-            case.name, case.used, case.swaps
-        );
-        let states = states(&case);
-        agree(&case, &states);
-        let times = measure(&case, &states, repetitions);
-        times.print();
-        if let Some(program) = env::var_os("BUDDY") {
-            match buddy::microseconds(&program, &case, repetitions) {
-                Ok(time) => {
-                    let time = time / f64::from(case.swaps);
-                    row("swap, against BuDDy", [times.within[0], time]);
-                }
-                Err(reason) => {
-                    eprintln!("BuDDy: {reason}");
-                    return ExitCode::FAILURE;
-                }
-            }
+    match arguments.as_deref() {
+        Some([]) => times::print(10),
+        Some([word]) if word == "plans" => {
+            plans::print();
+            ExitCode::SUCCESS
         }
-        println!();
-    }
-    println!(
-        "Microseconds, the least of {repetitions}; left the library, right the other program."
-    );
-    ExitCode::SUCCESS
-}
-
-/// Both sides give the same answers and leave the same buffers.
-fn agree(case: &Case, states: &[State]) {
-    let mut answer = [0; 6];
-    let same = |count: usize, answer: &[u32; 6], expected: Answer| {
-        assert_eq!(answer[..count], expected.numbers(), "the answers differ");
-    };
-
-    let count = library::check(&case.before, &mut answer);
-    same(count, &answer, ordinary::check(&case.before));
-
-    for state in states {
-        let (mut ours, mut theirs) = (state.buffers.clone(), state.buffers.clone());
-        let count = library::swap(&mut ours, state.level as u32, &mut answer);
-        same(count, &answer, ordinary::swap(&mut theirs, state.level));
-        assert!(ours == theirs, "the buffers differ after a swap");
-    }
-
-    let mut ours = case.before.clone();
-    let count = library::run(&mut ours, &case.target, u32::MAX, &mut answer);
-    same(count, &answer, Answer::Done { swaps: case.swaps });
-    assert!(ours == case.after, "the buffers differ after the run");
-}
-
-/// The buffers before some swap of the run, and its upper level.
-struct State {
-    buffers: Buffers,
-    level: usize,
-}
-
-/// One swap in 31 of the run, from the first on.
-fn states(case: &Case) -> Vec<State> {
-    let mut states = Vec::new();
-    let mut buffers = case.before.clone();
-    while let Some(level) = planned(&buffers.order, &case.target) {
-        states.push(State {
-            buffers: buffers.clone(),
-            level,
-        });
-        ordinary::run(&mut buffers, &case.target, 31);
-    }
-    states
-}
-
-/// Least times in microseconds, of the library and of the ordinary program.
-struct Times {
-    check: [f64; 2],
-    /// The mean of one swap in 31, each by a call of its own.
-    swap: [f64; 2],
-    /// The mean swap of the run: its time without that of its check.
-    within: [f64; 2],
-    /// All swaps by one call.
-    run: [f64; 2],
-}
-
-fn measure(case: &Case, states: &[State], repetitions: usize) -> Times {
-    let none = [f64::INFINITY; 2];
-    let mut check = none;
-    let mut swaps = vec![none; states.len()];
-    let mut run = none;
-    let mut answer = [0; 6];
-    for _ in 0..repetitions {
-        let [ours, theirs] = &mut check;
-        least(ours, || {
-            library::check(black_box(&case.before), &mut answer)
-        });
-        least(theirs, || ordinary::check(black_box(&case.before)));
-
-        for (state, [ours, theirs]) in states.iter().zip(&mut swaps) {
-            let mut buffers = state.buffers.clone();
-            least(ours, || {
-                library::swap(&mut buffers, state.level as u32, &mut answer)
-            });
-            let mut buffers = state.buffers.clone();
-            least(theirs, || ordinary::swap(&mut buffers, state.level));
-            black_box(&buffers);
-        }
-
-        let [ours, theirs] = &mut run;
-        let mut buffers = case.before.clone();
-        least(ours, || {
-            library::run(&mut buffers, &case.target, u32::MAX, &mut answer)
-        });
-        let mut buffers = case.before.clone();
-        least(theirs, || {
-            ordinary::run(&mut buffers, &case.target, u32::MAX)
-        });
-        black_box(&buffers);
-    }
-    let mean = |side: usize| {
-        let sum: f64 = swaps.iter().map(|swap| swap[side]).sum();
-        sum / swaps.len() as f64
-    };
-    let within = |side: usize| (run[side] - check[side]) / f64::from(case.swaps);
-    Times {
-        check,
-        swap: [mean(0), mean(1)],
-        within: [within(0), within(1)],
-        run,
+        Some([number]) => match number.parse() {
+            Ok(repetitions @ 1..=10_000) => times::print(repetitions),
+            _ => usage(),
+        },
+        _ => usage(),
     }
 }
 
-fn least<T>(best: &mut f64, work: impl FnOnce() -> T) {
-    let start = Instant::now();
-    let result = work();
-    let time = start.elapsed().as_secs_f64() * 1e6;
-    black_box(result);
-    *best = best.min(time);
-}
-
-impl Times {
-    fn print(&self) {
-        println!(
-            "{:<26} {:>10} {:>10} {:>7}",
-            "", "library", "ordinary", "ratio"
-        );
-        row("check", self.check);
-        row("swap, a call of its own", self.swap);
-        row("swap, within the run", self.within);
-        row("full run", self.run);
-    }
-}
-
-fn row(name: &str, [ours, theirs]: [f64; 2]) {
-    println!(
-        "{name:<26} {ours:>10.1} {theirs:>10.1} {:>7.2}",
-        ours / theirs
-    );
+fn usage() -> ExitCode {
+    eprintln!("usage: bench/run [REPETITIONS], a number from 1 to 10000, or bench/run plans");
+    ExitCode::from(2)
 }

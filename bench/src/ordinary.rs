@@ -6,6 +6,7 @@
 use std::collections::{BTreeSet, HashMap, HashSet};
 
 use crate::generate::Buffers;
+use crate::library::{DONE, NO_ROOM, PAUSED};
 
 const FREE: u8 = 255;
 const RECORDS: usize = 4_096;
@@ -38,19 +39,54 @@ impl Answer {
             Answer::Accepted { used } => vec![0, small(used)],
             Answer::Refused { number, place } => vec![number, small(place)],
             Answer::Made => vec![0],
-            Answer::NoRoom(lack) => {
-                vec![100, small(lack.level), small(lack.needed), small(lack.free)]
-            }
-            Answer::Done { swaps } => vec![0, swaps, 0],
+            Answer::NoRoom(lack) => vec![
+                NO_ROOM,
+                small(lack.level),
+                small(lack.needed),
+                small(lack.free),
+            ],
+            Answer::Done { swaps } => vec![DONE, swaps, 0],
             Answer::Stuck { swaps, left, lack } => vec![
-                100,
+                NO_ROOM,
                 swaps,
                 small(left),
                 small(lack.level),
                 small(lack.needed),
                 small(lack.free),
             ],
-            Answer::Paused { swaps, left } => vec![101, swaps, small(left)],
+            Answer::Paused { swaps, left } => vec![PAUSED, swaps, small(left)],
+        }
+    }
+}
+
+/// How a run chooses its next pair, by the library's numbers.
+#[derive(Clone, Copy, Debug)]
+pub enum Plan {
+    BringUp = 0,
+    SinkDown = 1,
+    LowestInversion = 2,
+    HighestInversion = 3,
+}
+
+impl Plan {
+    pub const ALL: [Plan; 4] = [
+        Plan::BringUp,
+        Plan::SinkDown,
+        Plan::LowestInversion,
+        Plan::HighestInversion,
+    ];
+
+    /// The upper level of the next pair; none where the order is the target.
+    pub fn next(self, order: &[u8], target: &[u8]) -> Option<usize> {
+        let mut levels = 0..order.len();
+        let differ = |&level: &usize| order[level] != target[level];
+        let place = |level: usize| order.iter().position(|&v| v == target[level]);
+        let inverted = |pair: &[usize]| pair[0] > pair[1];
+        match self {
+            Plan::BringUp => levels.find(differ).and_then(place).map(|p| p - 1),
+            Plan::SinkDown => levels.rfind(differ).and_then(place),
+            Plan::LowestInversion => wanted(order, target).windows(2).rposition(inverted),
+            Plan::HighestInversion => wanted(order, target).windows(2).position(inverted),
         }
     }
 }
@@ -74,25 +110,25 @@ pub fn swap(buffers: &mut Buffers, level: usize) -> Answer {
     }
     let mut diagram = Diagram::load(buffers);
     match diagram.prepare(level) {
-        Ok(plan) => diagram.commit(plan),
+        Ok(prepared) => diagram.commit(prepared),
         Err(lack) => return Answer::NoRoom(lack),
     }
     diagram.store(buffers);
     Answer::Made
 }
 
-pub fn run(buffers: &mut Buffers, target: &[u8], budget: u32) -> Answer {
+pub fn run(buffers: &mut Buffers, target: &[u8], plan: Plan, budget: u32) -> Answer {
     if let Err(refused) = judge(buffers, Some(target)) {
         return refused;
     }
     let mut diagram = Diagram::load(buffers);
     let mut swaps = 0;
     let answer = loop {
-        let Some(level) = planned(&diagram.order, target) else {
+        let Some(level) = plan.next(&diagram.order, target) else {
             break Answer::Done { swaps };
         };
-        let plan = match diagram.prepare(level) {
-            Ok(plan) => plan,
+        let prepared = match diagram.prepare(level) {
+            Ok(prepared) => prepared,
             Err(lack) => {
                 let left = inversions(&diagram.order, target);
                 break Answer::Stuck { swaps, left, lack };
@@ -102,26 +138,15 @@ pub fn run(buffers: &mut Buffers, target: &[u8], budget: u32) -> Answer {
             let left = inversions(&diagram.order, target);
             break Answer::Paused { swaps, left };
         }
-        diagram.commit(plan);
+        diagram.commit(prepared);
         swaps += 1;
     };
     diagram.store(buffers);
     answer
 }
 
-/// The upper level of the next pair of the Bring Up plan.
-pub fn planned(order: &[u8], target: &[u8]) -> Option<usize> {
-    let top = (0..order.len()).find(|&level| order[level] != target[level])?;
-    let place = order.iter().position(|&variable| variable == target[top])?;
-    Some(place - 1)
-}
-
 fn inversions(order: &[u8], target: &[u8]) -> usize {
-    let mut wanted = [0; VARIABLES];
-    for (level, &variable) in target.iter().enumerate() {
-        wanted[variable as usize] = level;
-    }
-    let wanted: Vec<usize> = order.iter().map(|&v| wanted[v as usize]).collect();
+    let wanted = wanted(order, target);
     let above = |level: usize| {
         let mine = wanted[level];
         wanted[..level]
@@ -130,6 +155,15 @@ fn inversions(order: &[u8], target: &[u8]) -> usize {
             .count()
     };
     (0..wanted.len()).map(above).sum()
+}
+
+/// The target's level of the variable at each level.
+fn wanted(order: &[u8], target: &[u8]) -> Vec<usize> {
+    let mut wanted = [0; VARIABLES];
+    for (level, &variable) in target.iter().enumerate() {
+        wanted[variable as usize] = level;
+    }
+    order.iter().map(|&v| wanted[v as usize]).collect()
 }
 
 /// The number of used records, or the refusal.
@@ -280,7 +314,7 @@ struct Diagram {
 }
 
 /// A swap that fits, before anything is changed.
-struct Plan {
+struct Prepared {
     level: usize,
     crossing: Vec<u16>,
     /// The other records of the upper variable.
@@ -352,7 +386,7 @@ impl Diagram {
         }
     }
 
-    fn prepare(&self, level: usize) -> Result<Plan, Lack> {
+    fn prepare(&self, level: usize) -> Result<Prepared, Lack> {
         let (x, y) = (self.order[level], self.order[level + 1]);
         let upper = &self.lists[x as usize];
         let (crossing, staying): (Vec<u16>, Vec<u16>) = upper.iter().partition(|&&number| {
@@ -394,7 +428,7 @@ impl Diagram {
                 free: self.free.len(),
             });
         }
-        Ok(Plan {
+        Ok(Prepared {
             level,
             crossing,
             staying,
@@ -403,18 +437,18 @@ impl Diagram {
         })
     }
 
-    fn commit(&mut self, plan: Plan) {
-        let level = plan.level;
+    fn commit(&mut self, swap: Prepared) {
+        let level = swap.level;
         let (x, y) = (self.order[level], self.order[level + 1]);
         self.order.swap(level, level + 1);
-        if plan.crossing.is_empty() {
+        if swap.crossing.is_empty() {
             return;
         }
 
         // New records take the free ones in rising number.
-        let mut new = Vec::with_capacity(plan.made.len());
-        for &(low, high) in &plan.made {
-            let number = self.free.pop_first().expect("the plan fits");
+        let mut new = Vec::with_capacity(swap.made.len());
+        for &(low, high) in &swap.made {
+            let number = self.free.pop_first().expect("the swap fits");
             self.records[number as usize] = Record {
                 variable: x,
                 low,
@@ -425,7 +459,7 @@ impl Diagram {
             self.name(high);
             new.push(number);
         }
-        for (&number, &(low, high)) in plan.crossing.iter().zip(&plan.children) {
+        for (&number, &(low, high)) in swap.crossing.iter().zip(&swap.children) {
             let record = &mut self.records[number as usize];
             let before = (record.low, record.high);
             record.variable = y;
@@ -453,8 +487,8 @@ impl Diagram {
             };
             self.free.insert(number);
         }
-        self.lists[x as usize] = merged(&plan.staying, &new);
-        self.lists[y as usize] = merged(&named, &plan.crossing);
+        self.lists[x as usize] = merged(&swap.staying, &new);
+        self.lists[y as usize] = merged(&named, &swap.crossing);
     }
 }
 

@@ -6,6 +6,7 @@ use crate::model::{Answer, Question};
 use crate::{edges, sheet};
 
 /// A question, and the answer and the buffers afterwards as the rules say.
+#[derive(Clone)]
 pub struct Case {
     pub name: &'static str,
     pub input: Input,
@@ -84,6 +85,22 @@ pub fn input(table: &[Bytes], roots: &[u16], order: &[u8]) -> Input {
             .collect(),
         order: order.to_vec(),
     }
+}
+
+/// A chain that leads through six variables in the order 2 1 0 5 4 3, with a
+/// root to each record: a swap of any two neighbours needs one record more,
+/// and none is free. On the way to 0 1 2 3 4 5 each plan swaps another pair
+/// first.
+pub fn chain() -> Input {
+    let records = [
+        used(2, 0, 3),
+        used(1, 0, 4),
+        used(0, 0, 5),
+        used(5, 0, 6),
+        used(4, 0, 7),
+        used(3, 0, 1),
+    ];
+    input(&records, &[2, 3, 4, 5, 6, 7], &[2, 1, 0, 5, 4, 3])
 }
 
 #[cfg(test)]

@@ -11,6 +11,7 @@ pub const LIST: usize = 8;
 const UNTOUCHED: u32 = 0xA5A5_5A5A;
 
 /// What a call must answer, and the buffers as it must leave them.
+#[derive(Clone)]
 pub struct Expected {
     pub answer: Answer,
     pub after: Input,
@@ -66,7 +67,7 @@ pub fn hold_library_to(
     let mut lent = input.clone();
     let mut lent_question = question.clone();
     let mut list = [UNTOUCHED; LIST];
-    let written = library::ask(&mut lent, &mut lent_question, &mut list[..entries]);
+    let written = library::ask(&mut lent, &mut lent_question, &mut list, entries)?;
 
     let answered = entries >= room(question);
     let numbers = if answered {

@@ -9,8 +9,8 @@ use crate::hold::hex;
 use crate::input::Input;
 use crate::layout::{RecordNumber, Reference, FREE_RECORD, MOST_RECORDS};
 use crate::model::{answer, Answer, Question};
+use crate::plans::{is_inversion, left, Plan};
 use crate::random::Random;
-use crate::slice::{left, planned_level};
 use crate::swap::{swap, Lack, Swap};
 
 /// Up to so many variables the roots are read under all combinations of
@@ -46,20 +46,24 @@ pub fn no_room_keeps(before: &Input, lack: Lack, random: &mut Random) -> Result<
     swap_keeps(&roomier, &made, random)
 }
 
-/// A run of the model, done again swap by swap: it has made so many swaps, and
-/// each takes one inversion away.
+/// A run of the model, done again swap by swap: it has made so many swaps,
+/// each of an inverted pair, which takes one inversion away.
 pub fn run_keeps(
     before: &Input,
     target: &[u8],
+    plan: &Plan,
     swaps: u32,
     after: &Input,
     random: &mut Random,
 ) -> Result<(), String> {
     let mut state = before.clone();
     for _ in 0..swaps {
-        let Some(level) = planned_level(&state.order, target) else {
+        let Some(level) = (plan.next)(&state.order, target) else {
             return Err(report("a run swaps beyond its target", before));
         };
+        if !is_inversion(state.order[level], state.order[level + 1], target) {
+            return Err(report("a run swaps a pair that is not inverted", &state));
+        }
         let Ok(made) = swap(&state, level) else {
             return Err(report("a run swaps without room", before));
         };
@@ -72,6 +76,12 @@ pub fn run_keeps(
     }
     if state != *after {
         return Err(report("a run is not its swaps", before));
+    }
+    if after.order == target && swaps as usize != left(&before.order, target) {
+        return Err(report(
+            "a finished run has other swaps than inversions",
+            before,
+        ));
     }
     values_kept(before, after, random)
 }

@@ -1,113 +1,124 @@
-//! The library's functions, each behind one safe function.
-//!
-//! Each writes the answer's numbers into the lent list and tells how many it
-//! wrote. Every buffer is lent for writing, also where nothing may be written
-//! to it: a change of it can then be seen afterwards, and is not taken by the
-//! compiler for impossible.
+//! The library, in a process of its own: `ask.c` puts each question to it and
+//! tells the whole of what it answered and left.
 
-use crate::entries::{relay_check, relay_read, relay_run, relay_show, relay_swap};
+use std::io::{self, BufReader, BufWriter, Read, Write};
+use std::path::Path;
+use std::process::{Child, ChildStdin, ChildStdout, Stdio};
+use std::sync::{Mutex, OnceLock};
+
+use crate::hold::LIST;
 use crate::input::Input;
+use crate::machine::command;
 use crate::model::Question;
 
-// SAFETY, for each call below: each pointer comes with the length of the live
-// buffer that it points to, no two of the buffers overlap, and every one of
-// them may be written to.
+/// The one that everybody asks.
+static LIBRARY: OnceLock<Mutex<Library>> = OnceLock::new();
 
-pub fn check(input: &mut Input, answer: &mut [u32]) -> usize {
-    let (table, roots, order) = (&mut input.table, &mut input.roots, &mut input.order);
-    unsafe {
-        relay_check(
-            table.as_mut_ptr(),
-            table.len(),
-            roots.as_mut_ptr(),
-            roots.len(),
-            order.as_mut_ptr(),
-            order.len(),
-            answer.as_mut_ptr(),
-            answer.len(),
-        )
-    }
+struct Library {
+    /// Ends where its standard input does.
+    _process: Child,
+    questions: BufWriter<ChildStdin>,
+    answers: BufReader<ChildStdout>,
 }
 
-pub fn read(input: &mut Input, position: u32, inputs: &mut [u8], answer: &mut [u32]) -> usize {
-    let (table, roots, order) = (&mut input.table, &mut input.roots, &mut input.order);
-    unsafe {
-        relay_read(
-            table.as_mut_ptr(),
-            table.len(),
-            roots.as_mut_ptr(),
-            roots.len(),
-            order.as_mut_ptr(),
-            order.len(),
-            position,
-            inputs.as_mut_ptr(),
-            inputs.len(),
-            answer.as_mut_ptr(),
-            answer.len(),
-        )
-    }
+/// Starts the program that asks the library.
+pub fn start(program: &Path) -> Result<(), String> {
+    let mut process = command(program)
+        .stdin(Stdio::piped())
+        .stdout(Stdio::piped())
+        .spawn()
+        .map_err(|error| format!("{} can't be run: {error}", program.display()))?;
+    let (questions, answers) = (process.stdin.take(), process.stdout.take());
+    let library = Library {
+        questions: BufWriter::new(questions.expect("its standard input is a pipe")),
+        answers: BufReader::new(answers.expect("its standard output is a pipe")),
+        _process: process,
+    };
+    LIBRARY
+        .set(Mutex::new(library))
+        .map_err(|_| "the library is started once".to_string())
 }
 
-pub fn show(input: &mut Input, position: u32, answer: &mut [u32]) -> usize {
-    let (table, roots, order) = (&mut input.table, &mut input.roots, &mut input.order);
-    unsafe {
-        relay_show(
-            table.as_mut_ptr(),
-            table.len(),
-            roots.as_mut_ptr(),
-            roots.len(),
-            order.as_mut_ptr(),
-            order.len(),
-            position,
-            answer.as_mut_ptr(),
-            answer.len(),
-        )
-    }
+/// Asks the question with so many entries of the list lent; how many numbers
+/// the library wrote. List, input and question are what it left.
+pub fn ask(
+    input: &mut Input,
+    question: &mut Question,
+    list: &mut [u32; LIST],
+    entries: usize,
+) -> Result<usize, String> {
+    let library = LIBRARY.get().ok_or("the library isn't started")?;
+    let mut library = library.lock().expect("nobody else asks it");
+    put(&mut library, input, question, list, entries)
+        .and_then(|()| taken(&mut library, input, question, list))
+        .map_err(|error| format!("the library doesn't answer: {error}"))
 }
 
-pub fn swap(input: &mut Input, level: u32, answer: &mut [u32]) -> usize {
-    let (table, roots, order) = (&mut input.table, &mut input.roots, &mut input.order);
-    unsafe {
-        relay_swap(
-            table.as_mut_ptr(),
-            table.len(),
-            roots.as_mut_ptr(),
-            roots.len(),
-            order.as_mut_ptr(),
-            order.len(),
-            level,
-            answer.as_mut_ptr(),
-            answer.len(),
-        )
-    }
-}
-
-pub fn run(input: &mut Input, target: &mut [u8], budget: u32, answer: &mut [u32]) -> usize {
-    let (table, roots, order) = (&mut input.table, &mut input.roots, &mut input.order);
-    unsafe {
-        relay_run(
-            table.as_mut_ptr(),
-            table.len(),
-            roots.as_mut_ptr(),
-            roots.len(),
-            order.as_mut_ptr(),
-            order.len(),
-            target.as_mut_ptr(),
-            target.len(),
-            budget,
-            answer.as_mut_ptr(),
-            answer.len(),
-        )
-    }
-}
-
-/// Asks the question, whichever it is.
-pub fn ask(input: &mut Input, question: &mut Question, answer: &mut [u32]) -> usize {
+/// What an entry is asked for besides a store: its place among the entries, a
+/// number, a budget, and one buffer more.
+fn asked(question: &mut Question) -> (u32, u32, u32, &mut [u8]) {
     match question {
-        Question::Check => check(input, answer),
-        Question::Read { position, inputs } => read(input, *position, inputs, answer),
-        Question::Show { position } => show(input, *position, answer),
-        Question::Swap { level } => swap(input, *level, answer),
-        Question::Run { target, budget } => run(input, target, *budget, answer),
+        Question::Check => (0, 0, 0, &mut []),
+        Question::Read { position, inputs } => (1, *position, 0, inputs),
+        Question::Show { position } => (2, *position, 0, &mut []),
+        Question::Swap { level } => (3, *level, 0, &mut []),
+        Question::Run {
+            target,
+            plan,
+            budget,
+        } => (4, *plan, *budget, target),
     }
+}
+
+fn put(
+    library: &mut Library,
+    input: &Input,
+    question: &mut Question,
+    list: &[u32; LIST],
+    entries: usize,
+) -> io::Result<()> {
+    let (entry, number, budget, more) = asked(question);
+    let [table, roots, order, length] =
+        [&input.table, &input.roots, &input.order, &*more].map(|buffer| buffer.len() as u32);
+    let numbers = [
+        entry,
+        table,
+        roots,
+        order,
+        length,
+        number,
+        budget,
+        entries as u32,
+    ];
+    for number in numbers.iter().chain(list) {
+        library.questions.write_all(&number.to_le_bytes())?;
+    }
+    for buffer in [&input.table, &input.roots, &input.order, &*more] {
+        library.questions.write_all(buffer)?;
+    }
+    library.questions.flush()
+}
+
+fn taken(
+    library: &mut Library,
+    input: &mut Input,
+    question: &mut Question,
+    list: &mut [u32; LIST],
+) -> io::Result<usize> {
+    let (_, _, _, more) = asked(question);
+    let written = number(&mut library.answers)?;
+    for entry in list {
+        *entry = number(&mut library.answers)?;
+    }
+    for buffer in [&mut input.table, &mut input.roots, &mut input.order] {
+        library.answers.read_exact(buffer)?;
+    }
+    library.answers.read_exact(more)?;
+    Ok(written as usize)
+}
+
+fn number(answers: &mut impl Read) -> io::Result<u32> {
+    let mut bytes = [0; 4];
+    answers.read_exact(&mut bytes)?;
+    Ok(u32::from_le_bytes(bytes))
 }

@@ -1,25 +1,26 @@
 //! The second program: the relay's rules read once more, independently of the
 //! library, and both compared on cases made by hand and at random.
 //!
-//! `layout`, `refusals`, `value`, `swap`, `slice`, `model` and `printed` are
-//! the reading of the rules, and `kept` holds that reading to what it must
-//! keep. `library`, over `entries`, is the other side, and `hold` and
-//! `compare` ask both. The cases made by hand are in `edges` and `sheet`; the
-//! rest makes random ones.
+//! `layout`, `refusals`, `value`, `swap`, `plans`, `slice`, `model` and
+//! `printed` are the reading of the rules, and `kept` holds that reading to
+//! what it must keep. `library` is the other side, in a process of its own, and
+//! `hold` and `compare` ask both. The cases made by hand are in `edges`, `sheet` and
+//! `texts`; the rest makes random ones.
 
 mod by_hand;
 mod compare;
 mod damage;
 mod diagram;
 mod edges;
-mod entries;
 mod generate;
 mod hold;
 mod input;
 mod kept;
 mod layout;
 mod library;
+mod machine;
 mod model;
+mod plans;
 mod printed;
 mod random;
 mod refusals;
@@ -28,6 +29,7 @@ mod sheet;
 mod slice;
 mod swap;
 mod tally;
+mod texts;
 mod value;
 mod wild;
 
@@ -39,9 +41,10 @@ use crate::model::Question;
 use crate::tally::Tally;
 
 const USAGE: &str = "\
-usage: compare [check | read | show | swap | run] [number of random questions]
-       compare program PATH [number of random runs]
-without a word: all but program";
+usage: compare library ASK [check | read | show | swap | run] [number of random questions]
+       compare program TRIP [number of random runs]
+ASK: the program of ask.c, linked with the library; without a word after it: all five.
+RELAY_RUN names x86_64/run where these programs can't be run by themselves.";
 
 /// A comparison that a word asks for.
 struct Part {
@@ -108,21 +111,34 @@ fn main() -> ExitCode {
 /// What the arguments ask for; the number of random questions is none where
 /// each part's own shall do.
 enum Wanted<'a> {
-    Parts(&'static [Part], Option<u64>),
+    Library(&'a Path, &'static [Part], Option<u64>),
     Program(&'a Path, Option<u64>),
 }
 
 fn wanted(arguments: &[String]) -> Result<Wanted<'_>, String> {
-    let Some((word, rest)) = arguments.split_first() else {
-        return Ok(Wanted::Parts(&PARTS, None));
+    let [side, path, rest @ ..] = arguments else {
+        return Err("which side, and where is its program?".to_string());
     };
-    if word == "program" {
-        let (path, rest) = rest.split_first().ok_or("the program's path is missing")?;
-        return Ok(Wanted::Program(Path::new(path), number(rest)?));
+    let path = Path::new(path);
+    match side.as_str() {
+        "library" => {
+            let (parts, rest) = parts(rest);
+            Ok(Wanted::Library(path, parts, number(rest)?))
+        }
+        "program" => Ok(Wanted::Program(path, number(rest)?)),
+        _ => Err(format!("'{side}' is no side")),
     }
-    match PARTS.iter().position(|part| part.word == word) {
-        Some(place) => Ok(Wanted::Parts(&PARTS[place..=place], number(rest)?)),
-        None => Ok(Wanted::Parts(&PARTS, number(arguments)?)),
+}
+
+/// The part that the first word asks for, or all of them; and the other words.
+fn parts(arguments: &[String]) -> (&'static [Part], &[String]) {
+    let word = arguments.first();
+    match PARTS
+        .iter()
+        .position(|part| Some(part.word) == word.map(String::as_str))
+    {
+        Some(place) => (&PARTS[place..=place], &arguments[1..]),
+        None => (&PARTS, arguments),
     }
 }
 
@@ -139,7 +155,8 @@ fn number(arguments: &[String]) -> Result<Option<u64>, String> {
 
 fn run(wanted: Wanted) -> Result<(), String> {
     match wanted {
-        Wanted::Parts(parts, number) => {
+        Wanted::Library(path, parts, number) => {
+            library::start(path)?;
             for part in parts {
                 let cases = by_hand::hold_library_to_cases(part.is_asked_by)?;
                 println!("{} by hand: {cases}, the answers of the rules", part.word);

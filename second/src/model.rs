@@ -2,6 +2,7 @@
 
 use crate::input::Input;
 use crate::layout::RECORD_BYTES;
+use crate::plans;
 use crate::refusals::{first_refusal, Arguments, Refusal};
 use crate::slice::slice;
 use crate::swap::{swap, Lack};
@@ -11,10 +12,22 @@ use crate::value::value;
 #[derive(Clone, Debug, PartialEq, Eq)]
 pub enum Question {
     Check,
-    Read { position: u32, inputs: Vec<u8> },
-    Show { position: u32 },
-    Swap { level: u32 },
-    Run { target: Vec<u8>, budget: u32 },
+    Read {
+        position: u32,
+        inputs: Vec<u8>,
+    },
+    Show {
+        position: u32,
+    },
+    Swap {
+        level: u32,
+    },
+    /// The plan is any number, also one that no plan has.
+    Run {
+        target: Vec<u8>,
+        plan: u32,
+        budget: u32,
+    },
 }
 
 #[derive(Clone, Copy, Debug, PartialEq, Eq)]
@@ -69,7 +82,14 @@ pub fn answer(input: &mut Input, question: &Question) -> Answer {
         (Question::Read { position, inputs }, None) => read(input, *position, inputs),
         (Question::Show { position }, None) => show(input, *position),
         (Question::Swap { level }, None) => swap_once(input, *level),
-        (Question::Run { target, budget }, None) => slice(input, target, *budget),
+        (
+            Question::Run {
+                target,
+                plan,
+                budget,
+            },
+            None,
+        ) => run(input, target, *plan, *budget),
     }
 }
 
@@ -91,8 +111,9 @@ fn arguments(question: &Question) -> Arguments<'_> {
             level: Some(*level),
             ..none
         },
-        Question::Run { target, .. } => Arguments {
+        Question::Run { target, plan, .. } => Arguments {
             target: Some(target),
+            plan: Some(*plan),
             ..none
         },
     }
@@ -129,4 +150,9 @@ fn swap_once(input: &mut Input, level: u32) -> Answer {
             Answer::Made
         }
     }
+}
+
+fn run(input: &mut Input, target: &[u8], plan: u32, budget: u32) -> Answer {
+    let plan = plans::plan(plan).expect("check 13 has passed");
+    slice(input, target, plan, budget)
 }

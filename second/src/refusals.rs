@@ -6,6 +6,7 @@ use crate::layout::{
     Record, RecordNumber, Reference, Store, MOST_RECORDS, MOST_ROOTS, MOST_VARIABLES, RECORD_BYTES,
     ROOT_BYTES,
 };
+use crate::plans;
 
 #[derive(Clone, Copy, Debug, PartialEq, Eq)]
 pub struct Refusal {
@@ -18,6 +19,7 @@ pub struct Refusal {
 #[derive(Clone, Copy, Default)]
 pub struct Arguments<'a> {
     pub target: Option<&'a [u8]>,
+    pub plan: Option<u32>,
     pub position: Option<u32>,
     pub inputs: Option<&'a [u8]>,
     pub level: Option<u32>,
@@ -28,7 +30,9 @@ pub struct Arguments<'a> {
 /// no such argument they pass.
 type Check = fn(Store, Arguments) -> Option<usize>;
 
-const CHECKS: [(u32, Check); 12] = [
+/// In the order in which they are made: that of their numbers, but for 13,
+/// which comes "after check 9".
+const CHECKS: [(u32, Check); 13] = [
     (1, length_outside),
     (2, |store, _| not_a_permutation(store.order)),
     (3, |_, arguments| not_a_permutation(arguments.target?)),
@@ -38,6 +42,7 @@ const CHECKS: [(u32, Check); 12] = [
     (7, |store, _| repeating_record(store)),
     (8, |store, _| root_astray(store)),
     (9, |store, _| idle_record(store)),
+    (13, |_, arguments| no_such_plan(arguments.plan?)),
     (10, |store, arguments| {
         no_such_root(store, arguments.position?)
     }),
@@ -49,8 +54,8 @@ const CHECKS: [(u32, Check); 12] = [
     }),
 ];
 
-/// "Checks run in the order of their numbers, each over the whole buffer
-/// before the next, so the lowest number that applies is the one given."
+/// "Each over the whole buffer before the next": the first check that says no
+/// gives its number and place.
 pub fn first_refusal(store: Store, arguments: Arguments) -> Option<Refusal> {
     CHECKS.iter().find_map(|&(number, check)| {
         let place = check(store, arguments)?;
@@ -164,6 +169,11 @@ fn idle_record(store: Store) -> Option<usize> {
         .used()
         .find(|(number, _)| !named.contains(number))
         .map(|(number, _)| place(number))
+}
+
+/// 13: "any other number" than a plan's; "the number as place".
+fn no_such_plan(number: u32) -> Option<usize> {
+    plans::plan(number).is_none().then_some(number as usize)
 }
 
 /// 10: "no such root"; "the position asked for".

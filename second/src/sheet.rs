@@ -1,35 +1,41 @@
 //! The bench sheet's cases A to K, and what lies next to them, with the
 //! answers and buffers written out by hand.
 
-use crate::by_hand::{input, used, with, Case, A_0, A_1, FREE};
+use crate::by_hand::{chain, input, used, with, Case, A_0, A_1, FREE};
 use crate::input::Input;
 use crate::model::{Answer, Question};
 use crate::refusals::Refusal;
 use crate::swap::Lack;
 
 pub fn cases() -> Vec<Case> {
-    [
+    let of_two_variables = [
         case_a(),
         case_b(),
         case_c(),
         case_d(),
         case_e(),
         case_f(),
+        case_j(),
+        case_k(),
+        refused_runs(),
+    ];
+    let others = [
         case_g(),
         case_h(),
         case_i(),
-        case_j(),
-        case_k(),
+        each_plan_its_own_pair(),
         shared_lower_records(),
         parts_shown(),
         values_read(),
         refused_reads(),
         refused_swaps(),
-        refused_runs(),
-    ]
-    .into_iter()
-    .flatten()
-    .collect()
+        refused_plans(),
+    ];
+    let by_every_plan = of_two_variables
+        .into_iter()
+        .flatten()
+        .flat_map(by_every_plan);
+    by_every_plan.chain(others.into_iter().flatten()).collect()
 }
 
 const LARGEST: u32 = u32::MAX;
@@ -53,15 +59,44 @@ fn swap(name: &'static str, input: Input, level: u32, answer: Answer, after: Inp
     Case::changed(name, input, Question::Swap { level }, answer, after)
 }
 
-fn run(
+/// Plans are written as their numbers: 0 Bring Up, 1 Sink Down, 2 Lowest
+/// Inversion, 3 Highest Inversion.
+fn run_by(
+    plan: u32,
     name: &'static str,
     input: Input,
     (target, budget): (&[u8], u32),
     answer: Answer,
     after: Input,
 ) -> Case {
-    let target = target.to_vec();
-    Case::changed(name, input, Question::Run { target, budget }, answer, after)
+    let question = Question::Run {
+        target: target.to_vec(),
+        plan,
+        budget,
+    };
+    Case::changed(name, input, question, answer, after)
+}
+
+/// By Bring Up; `by_every_plan` makes the others of it.
+fn run(name: &'static str, input: Input, job: (&[u8], u32), answer: Answer, after: Input) -> Case {
+    run_by(0, name, input, job, answer, after)
+}
+
+/// A run, once for each plan: two variables have only one pair to be swapped.
+/// Any other case is itself.
+fn by_every_plan(case: Case) -> Vec<Case> {
+    let Question::Run { target, budget, .. } = case.question.clone() else {
+        return vec![case];
+    };
+    let by = |plan| Case {
+        question: Question::Run {
+            target: target.clone(),
+            plan,
+            budget,
+        },
+        ..case.clone()
+    };
+    (0..4).map(by).collect()
 }
 
 const EMPTY: [usize; 2] = [0, 0];
@@ -198,90 +233,112 @@ fn alone(order: &[u8]) -> Input {
     input(&[], &[], order)
 }
 
-fn case_g() -> Vec<Case> {
-    let g = || alone(&[0, 1, 2]);
-    let to_2_1_0 = |budget| (&[2, 1, 0][..], budget);
+/// Three swaps by way of these orders; the last of them is the target.
+fn in_three<const N: usize>(
+    plan: u32,
+    name: &'static str,
+    start: [u8; N],
+    way: [[u8; N]; 3],
+) -> Vec<Case> {
+    let [first, second, target] = way;
+    let run = |budget, answer, after: [u8; N]| {
+        let job = (&target[..], budget);
+        run_by(plan, name, alone(&start), job, answer, alone(&after))
+    };
     vec![
-        run("G, budget 0", g(), to_2_1_0(0), paused(0, 3), g()),
-        run(
-            "G, budget 1",
-            g(),
-            to_2_1_0(1),
-            paused(1, 2),
-            alone(&[0, 2, 1]),
-        ),
-        run(
-            "G, budget 2",
-            g(),
-            to_2_1_0(2),
-            paused(2, 1),
-            alone(&[2, 0, 1]),
-        ),
-        run("G, budget 3", g(), to_2_1_0(3), done(3), alone(&[2, 1, 0])),
-        run("G, budget 4", g(), to_2_1_0(4), done(3), alone(&[2, 1, 0])),
+        run(0, paused(0, 3), start),
+        run(1, paused(1, 2), first),
+        run(2, paused(2, 1), second),
+        run(3, done(3), target),
+        run(4, done(3), target),
+        run(LARGEST, done(3), target),
     ]
+}
+
+fn case_g() -> Vec<Case> {
+    let g = |plan, name, way| in_three(plan, name, [0, 1, 2], way);
+    [
+        g(0, "G, Bring Up", [[0, 2, 1], [2, 0, 1], [2, 1, 0]]),
+        g(1, "G, Sink Down", [[1, 0, 2], [1, 2, 0], [2, 1, 0]]),
+        g(2, "G, Lowest", [[0, 2, 1], [2, 0, 1], [2, 1, 0]]),
+        g(3, "G, Highest", [[1, 0, 2], [1, 2, 0], [2, 1, 0]]),
+    ]
+    .concat()
 }
 
 fn case_h() -> Vec<Case> {
-    let h = || alone(&[0, 1, 2, 3]);
     let target = [1, 3, 0, 2];
+    let h = |plan, name, [first, second]: [[u8; 4]; 2]| {
+        in_three(plan, name, [0, 1, 2, 3], [first, second, target])
+    };
+    [
+        h(0, "H, Bring Up", [[1, 0, 2, 3], [1, 0, 3, 2]]),
+        h(1, "H, Sink Down", [[0, 1, 3, 2], [1, 0, 3, 2]]),
+        h(2, "H, Lowest", [[0, 1, 3, 2], [1, 0, 3, 2]]),
+        h(3, "H, Highest", [[1, 0, 2, 3], [1, 0, 3, 2]]),
+    ]
+    .concat()
+}
+
+/// Bring Up and Lowest Inversion exchange the two lowest levels last, the
+/// others the two highest.
+fn case_i() -> Vec<Case> {
+    let starting_33: Vec<u8> = (0..33).collect();
+    let reversed_33: Vec<u8> = (0..33).rev().collect();
+    let over = run(
+        "I, n = 33",
+        alone(&starting_33),
+        (&reversed_33, LARGEST),
+        refused(1, 0),
+        alone(&starting_33),
+    );
+    [
+        reversed_by(0, "I, Bring Up", 30),
+        reversed_by(1, "I, Sink Down", 0),
+        reversed_by(2, "I, Lowest", 30),
+        reversed_by(3, "I, Highest", 0),
+        by_every_plan(over),
+    ]
+    .concat()
+}
+
+/// 32 variables; one swap before the end the pair at this upper level is still
+/// to be exchanged.
+fn reversed_by(plan: u32, name: &'static str, last: usize) -> Vec<Case> {
+    let starting: Vec<u8> = (0..32).collect();
+    let reversed: Vec<u8> = (0..32).rev().collect();
+    let mut nearly = reversed.clone();
+    nearly.swap(last, last + 1);
+    let run = |budget, answer, after: &[u8]| {
+        let job = (&reversed[..], budget);
+        run_by(plan, name, alone(&starting), job, answer, alone(after))
+    };
     vec![
-        run(
-            "H, budget 1",
-            h(),
-            (&target, 1),
-            paused(1, 2),
-            alone(&[1, 0, 2, 3]),
-        ),
-        run(
-            "H, budget 2",
-            h(),
-            (&target, 2),
-            paused(2, 1),
-            alone(&[1, 0, 3, 2]),
-        ),
-        run("H, budget 3", h(), (&target, 3), done(3), alone(&target)),
+        run(LARGEST, done(496), &reversed),
+        run(496, done(496), &reversed),
+        run(495, paused(495, 1), &nearly),
     ]
 }
 
-fn case_i() -> Vec<Case> {
-    let starting: Vec<u8> = (0..32).collect();
-    let reversed: Vec<u8> = (0..32).rev().collect();
-    // One swap before the end the last two are still to be exchanged.
-    let mut nearly = reversed.clone();
-    nearly.swap(30, 31);
-    let starting_33: Vec<u8> = (0..33).collect();
-    let reversed_33: Vec<u8> = (0..33).rev().collect();
-    vec![
-        run(
-            "I, largest budget",
-            alone(&starting),
-            (&reversed, LARGEST),
-            done(496),
-            alone(&reversed),
-        ),
-        run(
-            "I, budget 496",
-            alone(&starting),
-            (&reversed, 496),
-            done(496),
-            alone(&reversed),
-        ),
-        run(
-            "I, budget 495",
-            alone(&starting),
-            (&reversed, 495),
-            paused(495, 1),
-            alone(&nearly),
-        ),
-        run(
-            "I, n = 33",
-            alone(&starting_33),
-            (&reversed_33, LARGEST),
-            refused(1, 0),
-            alone(&starting_33),
-        ),
+/// From the chain's order to 0 1 2 3 4 5, without records and with the chain:
+/// the first swap tells the plans apart.
+fn each_plan_its_own_pair() -> Vec<Case> {
+    let start = || alone(&[2, 1, 0, 5, 4, 3]);
+    let one = (&[0, 1, 2, 3, 4, 5][..], 1);
+    let both = |plan, name, level, after: [u8; 6]| {
+        let no_room = stuck(0, 6, lack(level, 1, 0));
+        [
+            run_by(plan, name, start(), one, paused(1, 5), alone(&after)),
+            run_by(plan, name, chain(), one, no_room, chain()),
+        ]
+    };
+    [
+        both(0, "six, Bring Up", 1, [2, 0, 1, 5, 4, 3]),
+        both(1, "six, Sink Down", 3, [2, 1, 0, 4, 5, 3]),
+        both(2, "six, Lowest", 4, [2, 1, 0, 5, 3, 4]),
+        both(3, "six, Highest", 0, [1, 2, 0, 5, 4, 3]),
     ]
+    .concat()
 }
 
 fn case_j() -> Vec<Case> {
@@ -516,5 +573,38 @@ fn refused_runs() -> Vec<Case> {
             refused(4, 0),
             malformed(),
         ),
+    ]
+}
+
+/// Numbers that are no plan's: the next one, and others whose last bits are.
+const NO_PLANS: [u32; 5] = [4, 255, 256, 1 << 31, LARGEST];
+
+/// Refused with any store, unless one of the refusals 1 to 9 applies: it wins.
+fn refused_plans() -> Vec<Case> {
+    NO_PLANS.into_iter().flat_map(refused_plan).collect()
+}
+
+fn refused_plan(plan: u32) -> Vec<Case> {
+    let row = |name, input: Input, target: &[u8], answer| {
+        run_by(plan, name, input.clone(), (target, 1), answer, input)
+    };
+    let order = &[0, 1];
+    let (to, no_such_plan) = (&[1, 0], refused(13, plan as usize));
+    let malformed = input(&[with(A_0, 1, 1), A_1], &[3], order);
+    let equal = input(&[used(0, 1, 1)], &[2], order);
+    let repeating = input(&[A_0, A_0], &[2, 3], order);
+    vec![
+        row("no such plan", a(), to, no_such_plan),
+        row("no such plan, no room", b(), to, no_such_plan),
+        row("no such plan, at the target", a(), order, no_such_plan),
+        row("1 and 13", a(), &[0], refused(1, 0)),
+        row("2 and 13", alone(&[0, 0]), to, refused(2, 1)),
+        row("3 and 13", a(), &[1, 1], refused(3, 1)),
+        row("4 and 13", malformed, to, refused(4, 0)),
+        row("5 and 13", input(&[A_0, A_1], &[3], to), to, refused(5, 1)),
+        row("6 and 13", equal, to, refused(6, 0)),
+        row("7 and 13", repeating, to, refused(7, 1)),
+        row("8 and 13", input(&[], &[2], order), to, refused(8, 0)),
+        row("9 and 13", input(&[A_0], &[], order), to, refused(9, 0)),
     ]
 }

@@ -12,7 +12,7 @@ use lib.ListN.{length}
 use Rattle.lists.specs.Apart.{apart}
 use Rattle.lists.specs.Count.{bit}
 use Rattle.plans.specs.Inversions.{left}
-use Rattle.plans.specs.BringUp.{bringUp, bring-up-lawful}
+use Rattle.plans.specs.Numbered.{planOf}
 use Rattle.checks.specs.Stages.{refusal, FailsFirst}
 use Rattle.checks.specs.Check.{checkStages, checkOf, CheckOutcome}
 use Rattle.checks.specs.Usable.{Usable}
@@ -114,35 +114,35 @@ module _ (t r o : List ℕ) where
     pub swap-one : {a b : SwapAnswer} {t₁ t₂ o₁ o₂ : List ℕ} → SwapOutcome t r o k a t₁ o₁ → SwapOutcome t r o k b t₂ o₂ → (a ≡ b) × (t₁ ≡ t₂) × (o₁ ≡ o₂)
     swap-one = swap.swap-one t r o k
 
-  -- ---- Run, by Bring Up
+  -- ---- Run, by the plan with any number
 
-  module _ (g : List ℕ) (budget : ℕ) where
+  module _ (g : List ℕ) (plan budget : ℕ) where
     -- the answer and the buffers left
     abbrev ran : Ran
-    ran = runOf plainSwap bringUp t r o g budget
+    ran = runOf plainSwap plan t r o g budget
 
     -- the upper level of the plan's next swap, of the order left
     abbrev next : ℕ
-    next = bringUp (ran .order) g
+    next = planOf plan (ran .order) g
 
-    pub run-refused : (k p : ℕ) → Exactly (ran .answer ≡ runs.Refused (refusal k p)) (FailsFirst (runStages plainSwap t r o g) k p)
+    pub run-refused : (k p : ℕ) → Exactly (ran .answer ≡ runs.Refused (refusal k p)) (FailsFirst (runStages plainSwap plan t r o g) k p)
     run-refused k p = record {
-      wherever = λ f. ap (λ w. w .answer) (run.run-refuses plainSwap bringUp t r o g budget k p f);
-      only = run.run-refuses-only plainSwap bringUp t r o g budget k p;
+      wherever = λ f. ap (λ w. w .answer) (run.run-refuses plainSwap plan t r o g budget k p f);
+      only = run.run-refuses-only plainSwap plan t r o g budget k p;
     }
 
     pub run-unchanged : (f : Refusal) → ran .answer ≡ runs.Refused f → (ran .table ≡ t) × (ran .order ≡ o)
-    run-unchanged = run.refused-keeps plainSwap bringUp t r o g budget
+    run-unchanged = run.refused-keeps plainSwap plan t r o g budget
 
-    -- what isn't refused: a table that can be used, and a target that is a permutation of its variables
-    pub run-starts : ((f : Refusal) → ran .answer ≡ runs.Refused f → ⊥) → Startable plainSwap t r o g
-    run-starts = run.run-startable plainSwap bringUp t r o g budget
+    -- what isn't refused: a table that can be used, a target that is a permutation of its variables, and a number that a plan has
+    pub run-starts : ((f : Refusal) → ran .answer ≡ runs.Refused f → ⊥) → Startable plainSwap plan t r o g
+    run-starts = run.run-startable plainSwap plan t r o g budget
 
     -- no room where the order left isn't the target and the plan's next swap needs more records than are free; with its level and these two numbers
-    pub run-no-room : Startable plainSwap t r o g → (ran .order ≡ g → ⊥) → freeIn (ran .table) < Needed (ran .table) (ran .order) next
+    pub run-no-room : Startable plainSwap plan t r o g → (ran .order ≡ g → ⊥) → freeIn (ran .table) < Needed (ran .table) (ran .order) next
         → ran .answer ≡ runs.NoRoom (swapsIn (ran .answer)) (left (ran .order) g) (lack next (Needed (ran .table) (ran .order) next) (freeIn (ran .table)))
     run-no-room s n h =
-        run.run-stuck plainSwap bringUp bring-up-lawful t r o g s budget n (lack next (Needed (ran .table) (ran .order) next) (freeIn (ran .table)))
+        run.run-stuck plainSwap plan t r o g s budget n (lack next (Needed (ran .table) (ran .order) next) (freeIn (ran .table)))
         (swap.lacks-if (ran .table) (ran .order) next h)
 
     -- and only there
@@ -151,7 +151,7 @@ module _ (t r o : List ℕ) where
         × (k ≡ lack next (Needed (ran .table) (ran .order) next) (freeIn (ran .table)))
     run-no-room-only m l k e =
         let s = run-starts (λ f q. apart (cc)) in
-        let (n, w) = run.run-lacks plainSwap bringUp bring-up-lawful t r o g s budget m l k e in
+        let (n, w) = run.run-lacks plainSwap plan t r o g s budget m l k e in
         let (h, q) = swap.lacks-then (ran .table) (ran .order) next k w in
         (n, h, q)
 
@@ -159,9 +159,9 @@ module _ (t r o : List ℕ) where
     pub run-paused-only : (m l : ℕ) → ran .answer ≡ runs.Paused m l → (ran .order ≡ g → ⊥) × (Needed (ran .table) (ran .order) next ≤ freeIn (ran .table))
     run-paused-only m l e =
         let s = run-starts (λ f q. apart (cc)) in
-        let (n, w, b) = run.run-paused plainSwap bringUp bring-up-lawful t r o g s budget m l e in
+        let (n, w, b) = run.run-paused plainSwap plan t r o g s budget m l e in
         (n, swap.fits-then (ran .table) (ran .order) next (ap isClear w))
 
     pub run-one : {a b : RunAnswer} {t₁ t₂ o₁ o₂ : List ℕ}
-        → RunOutcome plainSwap bringUp t r o g budget a t₁ o₁ → RunOutcome plainSwap bringUp t r o g budget b t₂ o₂ → (a ≡ b) × (t₁ ≡ t₂) × (o₁ ≡ o₂)
-    run-one = run.run-one plainSwap bringUp t r o g budget
+        → RunOutcome plainSwap plan t r o g budget a t₁ o₁ → RunOutcome plainSwap plan t r o g budget b t₂ o₂ → (a ≡ b) × (t₁ ≡ t₂) × (o₁ ≡ o₂)
+    run-one = run.run-one plainSwap plan t r o g budget

@@ -10,7 +10,6 @@ use Rattle.diagrams.specs.Layout.{records, rootCount, rootAt, variableAt, isFre
 use Rattle.diagrams.specs.Lookup.{lookup}
 use Rattle.diagrams.specs.Value.{value}
 use Rattle.orders.specs.Exchange.{exchange}
-use Rattle.plans.specs.BringUp.{bringUp, bring-up-lawful}
 use Rattle.checks.specs.Check.{used, checkOf}
 use Rattle.checks.specs.Usable.{Usable}
 use Rattle.checks.specs.Theorems as check
@@ -78,7 +77,7 @@ module _ (t r o : List ℕ) where
   pub swap-reads : (k position : ℕ) (inputs : List ℕ) → readOf (swapOf t r o k .table) r (swapOf t r o k .order) position inputs ≡ readOf t r o position inputs
   swap-reads k position inputs = same.swap-reads t r o k position inputs
 
-  -- any run, by Bring Up, of any bytes
-  pub run-reads : (g : List ℕ) (budget position : ℕ) (inputs : List ℕ)
-      → readOf (runOf plainSwap bringUp t r o g budget .table) r (runOf plainSwap bringUp t r o g budget .order) position inputs ≡ readOf t r o position inputs
-  run-reads g budget position inputs = same.run-reads bringUp bring-up-lawful t r o g budget position inputs
+  -- any run, by the plan with any number, of any bytes
+  pub run-reads : (plan : ℕ) (g : List ℕ) (budget position : ℕ) (inputs : List ℕ)
+      → readOf (runOf plainSwap plan t r o g budget .table) r (runOf plainSwap plan t r o g budget .order) position inputs ≡ readOf t r o position inputs
+  run-reads plan g budget position inputs = same.run-reads plan t r o g budget position inputs

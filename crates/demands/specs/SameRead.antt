@@ -11,7 +11,6 @@ use Rattle.diagrams.specs.Layout.{rootCount, rootAt}
 use Rattle.diagrams.specs.Lookup.{lookup}
 use Rattle.diagrams.specs.Value.{value}
 use Rattle.orders.specs.Exchange.{length-exchange}
-use Rattle.plans.specs.Plans.{Plan, Lawful}
 use Rattle.checks.specs.Stages.{Stage, stageAt, refusal, verdictOf, clear-if, row-passes, place-refuses}
 use Rattle.checks.specs.Check.{checkStages}
 use Rattle.checks.specs.Usable.{Usable, usable-then, all-pass}
@@ -103,7 +102,7 @@ module _ (t r o : List ℕ) (k position : ℕ) (inputs : List ℕ) where
   pub swap-reads : SwapSame
   swap-reads = swap-by (swapOf t r o k .answer) refl
 
-module _ (plan : Plan) (lawful : Lawful plan) (t r o g : List ℕ) (budget position : ℕ) (inputs : List ℕ) where
+module _ (plan : ℕ) (t r o g : List ℕ) (budget position : ℕ) (inputs : List ℕ) where
   abbrev ran : Ran
   ran = runOf plainSwap plan t r o g budget
 
@@ -114,8 +113,8 @@ module _ (plan : Plan) (lawful : Lawful plan) (t r o g : List ℕ) (budget posit
   run-started : ((f : Refusal) → ran .answer ≡ runs.Refused f → ⊥) → RunSame
   run-started n =
       let s = run-startable plainSwap plan t r o g budget n in
-      read-same t (ran .table) r o (ran .order) (s .usable) (run-usable plainSwap plan lawful t r o g s budget)
-      (run-long plainSwap plan lawful t r o g s budget) (run-root-value plainSwap plan lawful t r o g s budget) position inputs
+      read-same t (ran .table) r o (ran .order) (s .ready .usable) (run-usable plainSwap plan t r o g s budget)
+      (run-long plainSwap plan t r o g s budget) (run-root-value plainSwap plan t r o g s budget) position inputs
 
   run-by : (a : RunAnswer) → ran .answer ≡ a → RunSame
   run-by (runs.Refused f) e =

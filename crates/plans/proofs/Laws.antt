@@ -1,14 +1,15 @@
 -- What each function's return is, over plain variables.
-use Prim.Native.Nat.{ℕ, _-_, _≤_, _<_}
-use mathlib.Core.Bool.{false, not}
+use Prim.Native.Nat.{ℕ, zero, suc, _+_, _-_, _≤_, _<_}
+use mathlib.Core.Bool.{Bool, false, not}
 use mathlib.Core.List.{List}
-use mathlib.Core.Path.{_≡_, ap, ap₂, sym, _∙_}
+use mathlib.Core.Path.{_≡_, refl, ap, ap₂, sym, _∙_}
 use native.Mathlib.Omega.{arith}
 use borrow.Author.Needs.{needs}
 use lib.Dec.{ltb}
 use lib.ListN.{length, getD, take}
 use lib.Seq.{length-take-le, getD-take}
 use Rattle.lists.specs.First.{first, first-agrees}
+use Rattle.lists.specs.Last.{last, last-agrees}
 use Rattle.lists.specs.Count.{count}
 use Rattle.lists.specs.Total.{pairs, Sum, sum-ends}
 use Rattle.orders.specs.Permutation.{ceiling, levelOf}
@@ -17,14 +18,24 @@ use Rattle.orders.specs.Arranged.{bytesOf, Arranged, arranged-length, arranged-
 use Rattle.orders.specs.declared.Order.{Order}
 use Rattle.plans.specs.Inversions.{above, inverted, left}
 use Rattle.plans.specs.Plans.{differsAt, same?}
-use Rattle.plans.specs.BringUp.{firstDifference, bringUp, difference-inside, bring-up-below}
-use Rattle.plans.specs.Towards.{arranged-differ}
+use Rattle.plans.specs.BringUp.{firstDifference, bringUp, difference-inside, bring-up-below, bring-up-lawful}
+use Rattle.plans.specs.SinkDown.{lastDifference, sinkDown, last-inside}
+use Rattle.plans.specs.Nearest.{invertedAt, lowestInversion, highestInversion}
+use Rattle.plans.specs.Numbered.{planOf, meant}
+use Rattle.plans.specs.declared.Plan as coded
+use Rattle.plans.specs.Towards.{arranged-differ, arranged-adjacent}
 
--- ---- the level nearest the top where order and target differ
+-- ---- the levels where order and target differ
+
+differs-taken : (o g : List ℕ) (n k : ℕ) → k < n → differsAt (take n o) (take n g) k ≡ differsAt o g k
+unfolding differsAt
+differs-taken o g n k l = rw (getD-take n o k 0 l, getD-take n g k 0 l)
 
 first-taken : (o g : List ℕ) (n : ℕ) → first (differsAt (take n o) (take n g)) n ≡ first (differsAt o g) n
-unfolding differsAt
-first-taken o g n = first-agrees (differsAt (take n o) (take n g)) (differsAt o g) n (λ k l. rw (getD-take n o, getD-take n g))
+first-taken o g n = first-agrees (differsAt (take n o) (take n g)) (differsAt o g) n (differs-taken o g n)
+
+last-taken : (o g : List ℕ) (n : ℕ) → last (differsAt (take n o) (take n g)) n ≡ last (differsAt o g) n
+last-taken o g n = last-agrees (differsAt (take n o) (take n g)) (differsAt o g) n (differs-taken o g n)
 
 pub same-returns : (o g : List ℕ) (n r : ℕ) → r ≡ first (differsAt o g) n → length o ≡ ceiling → n ≤ ceiling → not (ltb r n) ≡ same? (take n o) (take n g)
 unfolding same?
@@ -40,34 +51,106 @@ pub left-returns : (o g : List ℕ) (n v k : ℕ) → Sum (λ x. count (λ u. in
 unfolding left pairs
 left-returns o g n v k s e l = rw e (sum-ends s l)
 
--- ---- Bring Up: k is the first level that differs, v the target's variable there, p the level where the order has v
+-- ---- Bring Up and Sink Down: k is a level that differs, v the target's variable there, p the level where the order has v
 
-module _ {o g : Order} {n : ℕ} (h : Arranged o n) (i : Arranged g n) (d : same? (bytesOf o n) (bytesOf g n) ≡ false)
-    {k : ℕ} (e : k ≡ first (differsAt (o .variables) (g .variables)) n) where
-  difference-is : firstDifference (bytesOf o n) (bytesOf g n) ≡ k
-  unfolding firstDifference
-  difference-is = rw (arranged-length h, first-taken (o .variables) (g .variables) n, e)
+module _ {o g : Order} {n : ℕ} (h : Arranged o n) (i : Arranged g n) where
+  module _ {k v p : ℕ} (inside : k < n) (f : v ≡ getD (g .variables) k 0) (q : p ≡ levelIn (o .levels) n v) where
+    level-is : levelOf (bytesOf o n) (getD (bytesOf g n) k 0) ≡ p
+    level-is = rw (getD-take n (g .variables) k 0 inside, ← f, q) (sym (arranged-level h v))
 
-  inside : k < n
-  inside =
-      let l = difference-inside (bytesOf o n) (bytesOf g n) (h .permutation) (i .permutation) (arranged-same-length h i) (arranged-differ h i d) in
-      omega (arith, arranged-length h, difference-is)
+  module _ (d : same? (bytesOf o n) (bytesOf g n) ≡ false) where
+    abbrev differ : bytesOf o n ≡ bytesOf g n → ⊥
+    differ = arranged-differ h i d
 
-  pub level-fits : k < ceiling
-  level-fits = omega (arith, inside, h .few)
+    module _ {k : ℕ} (e : k ≡ first (differsAt (o .variables) (g .variables)) n) where
+      first-is : firstDifference (bytesOf o n) (bytesOf g n) ≡ k
+      unfolding firstDifference
+      first-is = rw (arranged-length h, first-taken (o .variables) (g .variables) n, e)
 
-  module _ {v p : ℕ} (f : v ≡ getD (g .variables) k 0) (q : p ≡ levelIn (o .levels) n v) where
-    level-is : levelOf (bytesOf o n) (getD (bytesOf g n) (firstDifference (bytesOf o n) (bytesOf g n)) 0) ≡ p
-    level-is = rw (difference-is, getD-take n (g .variables) k 0 inside, ← f, q) (sym (arranged-level h v))
+      first-in : k < n
+      first-in =
+          let l = difference-inside (bytesOf o n) (bytesOf g n) (h .permutation) (i .permutation) (arranged-same-length h i) differ in
+          omega (arith, arranged-length h, first-is)
 
-    pub below-top : 1 ≤ p
-    below-top =
-        rw level-is at
-        (bring-up-below (bytesOf o n) (bytesOf g n) (h .permutation) (i .permutation) (arranged-same-length h i) (arranged-differ h i d))
+      pub first-fits : k < ceiling
+      first-fits = omega (arith, first-in, h .few)
 
-    pub bring-up-returns : p - 1 ≡ bringUp (bytesOf o n) (bytesOf g n)
-    unfolding bringUp
-    bring-up-returns = ap (λ (x : ℕ). x - 1) (sym level-is)
+      module _ {v p : ℕ} (f : v ≡ getD (g .variables) k 0) (q : p ≡ levelIn (o .levels) n v) where
+        brought : levelOf (bytesOf o n) (getD (bytesOf g n) (firstDifference (bytesOf o n) (bytesOf g n)) 0) ≡ p
+        brought = rw first-is (level-is first-in f q)
 
--- `search bringing` answers every need of `bring_up`
-pub ruleset bringing = (level-fits, below-top, bring-up-returns, needs)
+        pub below-top : 1 ≤ p
+        below-top =
+            rw brought at (bring-up-below (bytesOf o n) (bytesOf g n) (h .permutation) (i .permutation) (arranged-same-length h i) differ)
+
+        pub bring-up-returns : p - 1 ≡ bringUp (bytesOf o n) (bytesOf g n)
+        unfolding bringUp
+        bring-up-returns = ap (λ (x : ℕ). x - 1) (sym brought)
+
+    module _ {k : ℕ} (e : k ≡ last (differsAt (o .variables) (g .variables)) n) where
+      last-is : lastDifference (bytesOf o n) (bytesOf g n) ≡ k
+      unfolding lastDifference
+      last-is = rw (arranged-length h, last-taken (o .variables) (g .variables) n, e)
+
+      last-in : k < n
+      last-in =
+          let l = last-inside (bytesOf o n) (bytesOf g n) (h .permutation) (i .permutation) (arranged-same-length h i) differ in
+          omega (arith, arranged-length h, last-is)
+
+      pub last-fits : k < ceiling
+      last-fits = omega (arith, last-in, h .few)
+
+      pub sink-down-returns : {v p : ℕ} → v ≡ getD (g .variables) k 0 → p ≡ levelIn (o .levels) n v → p ≡ sinkDown (bytesOf o n) (bytesOf g n)
+      unfolding sinkDown
+      sink-down-returns f q = rw last-is (sym (level-is last-in f q))
+
+    -- ---- Lowest and Highest Inversion: there are pairs of levels, and the searches go through all of them
+
+    pub some-pair : 1 ≤ n
+    some-pair = omega (arith, arranged-adjacent h i d bring-up-lawful .within, arranged-length h)
+
+  module _ {x : ℕ} where
+    pub lowest-returns : x ≡ last (invertedAt (bytesOf o n) (bytesOf g n)) (n - 1) → x ≡ lowestInversion (bytesOf o n) (bytesOf g n)
+    unfolding lowestInversion
+    lowest-returns e = rw (arranged-length h) e
+
+    pub highest-returns : x ≡ first (invertedAt (bytesOf o n) (bytesOf g n)) (n - 1) → x ≡ highestInversion (bytesOf o n) (bytesOf g n)
+    unfolding highestInversion
+    highest-returns e = rw (arranged-length h) e
+
+-- `search bringing` answers every need of `bring_up`, `search sinking` every one of `sink_down`
+pub ruleset bringing = (first-fits, below-top, bring-up-returns, needs)
+
+pub ruleset sinking = (last-fits, sink-down-returns, needs)
+
+pub inverted-at-returns : (o g : Order) (n k : ℕ) {b : Bool} {u v : ℕ} → k + 1 < n → u ≡ getD (o .variables) k 0 → v ≡ getD (o .variables) (k + 1) 0
+    → b ≡ inverted (bytesOf o n) (bytesOf g n) u v → b ≡ invertedAt (bytesOf o n) (bytesOf g n) k
+unfolding invertedAt
+inverted-at-returns o g n k l e f q = rw (getD-take n (o .variables) k 0 (omega arith), getD-take n (o .variables) (k + 1) 0 l, ← e, ← f) q
+
+-- ---- by number
+
+module _ (number : ℕ) where
+  pub number-0 : number ≡ 0 → bringUp ≡ planOf number
+  unfolding planOf
+  number-0 e = rw e
+
+  pub number-1 : number ≡ 1 → sinkDown ≡ planOf number
+  unfolding planOf
+  number-1 e = rw e
+
+  pub number-2 : number ≡ 2 → lowestInversion ≡ planOf number
+  unfolding planOf
+  number-2 e = rw e
+
+pub number-rest : (number : ℕ) → (number ≡ 0 → ⊥) → (number ≡ 1 → ⊥) → (number ≡ 2 → ⊥) → highestInversion ≡ planOf number
+unfolding planOf
+number-rest zero f g h = absurd (f refl)
+number-rest (suc zero) f g h = absurd (g refl)
+number-rest (suc (suc zero)) f g h = absurd (h refl)
+number-rest (suc (suc (suc zero))) f g h = refl
+number-rest (suc (suc (suc (suc number)))) f g h = refl
+
+-- the next level by a plan that was taken apart
+pub next-returns : (o g : List ℕ) {a b : coded.Plan} {x : ℕ} → a ≡ b → x ≡ meant b o g → x ≡ meant a o g
+next-returns o g e q = rw e q

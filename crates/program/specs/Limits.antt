@@ -1,29 +1,31 @@
 -- A file over its limit is refusal 1, and so is an odd number of root bytes. So the program need not read a file further than one byte past its
 -- limit.
 use Prim.Native.Nat.{ℕ, _+_, _*_, _%_, _≤_, _<_}
-use mathlib.Core.Bool.{true}
-use mathlib.Core.List.{List}
+use mathlib.Core.Bool.{Bool, true, false, cond}
+use mathlib.Core.List.{List, [], _∷_}
 use mathlib.Core.Logic.{⊎-elim}
-use mathlib.Core.Path.{_≡_, ap, sym, _∙_}
-use native.Mathlib.Nat.{le-refl}
+use mathlib.Core.Path.{_≡_, refl, ap, sym, _∙_}
 use native.Mathlib.Omega.{arith}
-use lib.ListN.{length, take}
-use lib.Seq.{length-take-le, take-all}
-use Rattle.lists.specs.First.{first, passed-none}
+use lib.Dec.{eqb}
+use lib.ListN.{length, getD, take}
+use lib.Seq.{length-take-le, take-all, getD-take}
+use borrow.Author.Tests.{ne-eqb}
+use Rattle.lists.specs.First.{first}
 use Rattle.lists.specs.Says.{either-side}
 use Rattle.lists.specs.Truth.{by}
 use Rattle.diagrams.specs.Layout.{recordSize, rootSize, mostRecords, mostRoots}
 use Rattle.orders.specs.Permutation.{ceiling}
-use Rattle.plans.specs.BringUp.{bringUp}
 use Rattle.check_sizes.specs.Sizes.{Sizes}
-use Rattle.checks.specs.Stages.{refusal, only, FailsFirst, here}
+use Rattle.checks.specs.Stages.{refusal, stageAt, verdictOf, place-refuses, row-refuses}
+use Rattle.checks.specs.declared.Verdict.the-variants as verdict
+use Rattle.plans.specs.Numbered.{noPlan}
 use Rattle.slices.specs.OneSwap.{plainSwap}
-use Rattle.slices.specs.Run.{Ran, badRunSizes, runStages, runOf}
-use Rattle.slices.specs.Theorems.{run-sizes, run-refuses}
+use Rattle.slices.specs.Run.{Ran, badRunSizes, storeStages, runStages, runOf}
+use Rattle.slices.specs.Theorems.{run-sizes}
 use Rattle.slices.specs.declared.RunAnswer.the-variants.{Refused}
 use Rattle.texts.specs.Text.{bytes, places, decimal, numbered}
-use Rattle.program.specs.Text.{answerText, storeText, printed}
-use Rattle.program.specs.Program.{largestBudget, programText}
+use Rattle.program.specs.Text.{answerText, answerLine, planText, storeText, printed}
+use Rattle.program.specs.Program.{programRun, programText}
 
 -- which file it is: trip.nod, trip.rts, trip.ord or trip.tgt is too long, or trip.rts doesn't hold whole roots
 pub data OverLimit (t r o g : List ℕ) : Type 0 where
@@ -41,19 +43,27 @@ module _ (t r o g : List ℕ) where
   sizes-wrong (target-long h) s = omega (arith, s .0 .few-variables)
   sizes-wrong (roots-odd h) s = omega (arith, s .0 .whole-roots)
 
-  first-fails : badRunSizes t r o g ≡ true → FailsFirst (runStages plainSwap t r o g) 1 0
-  unfolding runStages only
-  first-fails e = here (le-refl 1) e passed-none
+  first-fails : OverLimit t r o g → verdictOf (storeStages plainSwap t r o g) ≡ verdict.Refused (refusal 1 0)
+  unfolding storeStages
+  first-fails h =
+      let e = ⊎-elim (λ e. e) (λ e. absurd (sizes-wrong h (run-sizes t r o g e))) (by (badRunSizes t r o g)) in
+      sym (place-refuses 1 0 (badRunSizes t r o g) true _ (sym e) refl)
 
-  -- whatever else the files hold, and whatever the budget is
-  pub over-refused : (budget : ℕ) → OverLimit t r o g → runOf plainSwap bringUp t r o g budget ≡ record { answer = Refused (refusal 1 0); table = t; order = o }
-  over-refused budget h =
-      run-refuses plainSwap bringUp t r o g budget 1 0
-      (first-fails (⊎-elim (λ e. e) (λ e. absurd (sizes-wrong h (run-sizes t r o g e))) (by (badRunSizes t r o g))))
+  -- whatever else the files hold, trip.pln too
+  pub over-refused : (p : List ℕ) → OverLimit t r o g → programRun t r o g p ≡ record { answer = Refused (refusal 1 0); table = t; order = o }
+  unfolding programRun runOf runStages
+  over-refused p h =
+      let rest = stageAt 13 (getD p 0 0) (noPlan (getD p 0 0)) ∷ [] in
+      let whole = sym (row-refuses (storeStages plainSwap t r o g) rest (refusal 1 0) (sym (first-fails h)) refl) in
+      rw (whole, first-fails h) (either (eqb (length p) 1))
+    where
+      either : {x : Ran} (b : Bool) → cond b x x ≡ x
+      either true = refl
+      either false = refl
 
-  pub over-printed : OverLimit t r o g → programText t r o g ≡ bytes "refused 1 place 0\n"
-  unfolding first places decimal numbered answerText storeText printed programText
-  over-printed h = ap (λ (ran : Ran). printed (ran .answer) (ran .table) r (ran .order)) (over-refused largestBudget h)
+  pub over-printed : (p : List ℕ) → OverLimit t r o g → programText t r o g p ≡ bytes "refused 1 place 0\n"
+  unfolding first places decimal numbered answerText answerLine planText storeText printed programText
+  over-printed p h = ap (λ (ran : Ran). printed (getD p 0 0) (ran .answer) (ran .table) r (ran .order)) (over-refused p h)
 
 -- ---- a file read up to one byte past its limit
 
@@ -66,21 +76,32 @@ cut-long limit l h = omega (arith, length-take-le (limit + 1) l (omega arith))
 whole : (limit : ℕ) (l : List ℕ) → length l ≤ limit → cut limit l ≡ l
 whole limit l h = take-all (limit + 1) l (omega arith)
 
-same-text : {t r o g t′ r′ o′ g′ : List ℕ} → OverLimit t r o g → OverLimit t′ r′ o′ g′ → programText t r o g ≡ programText t′ r′ o′ g′
-same-text h k = over-printed _ _ _ _ h ∙ sym (over-printed _ _ _ _ k)
+same-text : {t r o g t′ r′ o′ g′ : List ℕ} (p p′ : List ℕ) → OverLimit t r o g → OverLimit t′ r′ o′ g′ → programText t r o g p ≡ programText t′ r′ o′ g′ p′
+same-text p p′ h k = over-printed _ _ _ _ p h ∙ sym (over-printed _ _ _ _ p′ k)
+
+-- a plan file of two bytes or more tells no plan, as one cut after two
+plan-cut : (t r o g p : List ℕ) → programText t r o g (cut 1 p) ≡ programText t r o g p
+unfolding programText programRun
+plan-cut t r o g p = rw (getD-take 2 p 0 0 (omega arith), either-side 1 (length p) long (λ l. ap (λ x. eqb (length x) 1) (whole 1 p l)))
+  where
+    long : 1 < length p → eqb (length (cut 1 p)) 1 ≡ eqb (length p) 1
+    long l = ne-eqb (length (cut 1 p)) 1 (λ e. omega (arith, cut-long 1 p l)) ∙ sym (ne-eqb (length p) 1 (λ e. omega arith))
 
 -- the text is that of the whole files
-module _ (t r o g : List ℕ) where
+module _ (t r o g p : List ℕ) where
   abbrev T : ℕ
   T = recordSize * mostRecords
 
   abbrev R : ℕ
   R = rootSize * mostRoots
 
-  pub cut-tells : programText (cut T t) (cut R r) (cut ceiling o) (cut ceiling g) ≡ programText t r o g
+  abbrev p′ : List ℕ
+  p′ = cut 1 p
+
+  pub cut-tells : programText (cut T t) (cut R r) (cut ceiling o) (cut ceiling g) p′ ≡ programText t r o g p
   cut-tells =
-      either-side T (length t) (λ l. same-text (table-long (cut-long T t l)) (table-long l))
-      (λ a. either-side R (length r) (λ l. same-text (roots-long (cut-long R r l)) (roots-long l))
-      (λ b. either-side ceiling (length o) (λ l. same-text (order-long (cut-long ceiling o l)) (order-long l))
-      (λ c. either-side ceiling (length g) (λ l. same-text (target-long (cut-long ceiling g l)) (target-long l))
-      (λ d. rw (whole T t a, whole R r b, whole ceiling o c, whole ceiling g d)))))
+      either-side T (length t) (λ l. same-text p′ p (table-long (cut-long T t l)) (table-long l))
+      (λ a. either-side R (length r) (λ l. same-text p′ p (roots-long (cut-long R r l)) (roots-long l))
+      (λ b. either-side ceiling (length o) (λ l. same-text p′ p (order-long (cut-long ceiling o l)) (order-long l))
+      (λ c. either-side ceiling (length g) (λ l. same-text p′ p (target-long (cut-long ceiling g l)) (target-long l))
+      (λ d. rw (whole T t a, whole R r b, whole ceiling o c, whole ceiling g d) (plan-cut t r o g p)))))

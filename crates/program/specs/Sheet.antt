@@ -9,10 +9,10 @@ use Rattle.slices.specs.declared.RunAnswer.the-variants.{NoRoom, Refused}
 use Rattle.sheet.specs.Sheet.{outcome}
 use Rattle.texts.specs.Text.{bytes, places, decimal, numbered, inTurn}
 use Rattle.listing.specs.Text.{variableText, orderLine, fieldsText, contentText, recordLine, rootText, rootsLine, listing}
-use Rattle.program.specs.Text.{swapsText, lackText, answerText, storeText, printed}
-use Rattle.program.specs.Program.{programText}
+use Rattle.program.specs.Text.{swapsText, lackText, answerText, answerLine, planLine, planText, storeText, printed}
+use Rattle.program.specs.Program.{programRun, programText}
 
--- case A: the bytes of trip.nod, trip.rts, trip.ord and trip.tgt
+-- case A: the bytes of trip.nod, trip.rts, trip.ord, trip.tgt
 nod : List ℕ
 nod = 1 ∷ 0 ∷ 0 ∷ 0 ∷ 1 ∷ 0 ∷ 0 ∷ 0 ∷ 0 ∷ 0 ∷ 0 ∷ 0 ∷ 2 ∷ 0 ∷ 0 ∷ 0 ∷ 255 ∷ 0 ∷ 0 ∷ 0 ∷ 0 ∷ 0 ∷ 0 ∷ 0 ∷ []
 
@@ -25,18 +25,31 @@ ord = 0 ∷ 1 ∷ []
 tgt : List ℕ
 tgt = 1 ∷ 0 ∷ []
 
-case-A : programText nod rts ord tgt ≡ bytes "done swaps 1 left 0\norder 1 0\n0 free\n1 1 0 4\n2 0 0 1\nroots 3\n"
-unfolding nod rts ord tgt outcome first places decimal numbered inTurn variableText orderLine fieldsText contentText recordLine rootText rootsLine
-    listing swapsText answerText storeText printed programText
+-- trip.pln
+pln : List ℕ
+pln = 0 ∷ []
+
+case-A : programText nod rts ord tgt pln ≡ bytes "plan 0\ndone swaps 1 left 0\norder 1 0\n0 free\n1 1 0 4\n2 0 0 1\nroots 3\n"
+unfolding nod rts ord tgt pln outcome first places decimal numbered inTurn variableText orderLine fieldsText contentText recordLine rootText rootsLine
+    listing swapsText answerText answerLine planLine planText storeText printed programRun programText
 case-A = refl
+
+-- a number that no plan has, and a file that isn't one byte
+no-plan : programText nod rts ord tgt (200 ∷ []) ≡ bytes "refused 13 place 200\n"
+unfolding nod rts ord tgt outcome first places decimal numbered answerText answerLine planLine planText storeText printed programRun programText
+no-plan = refl
+
+empty-plan : programText nod rts ord tgt [] ≡ bytes "refused 13 place 0\n"
+unfolding nod rts ord tgt outcome first places decimal numbered answerText answerLine planLine planText storeText printed programRun programText
+empty-plan = refl
 
 no-room : answerText (NoRoom 0 1 (lack 0 1 0)) ≡ bytes "no room swaps 0 left 1 level 0 needed 1 free 0"
 unfolding first places decimal numbered swapsText lackText answerText
 no-room = refl
 
-refused : (t r o : List ℕ) → printed (Refused (refusal 4 2)) t r o ≡ bytes "refused 4 place 2\n"
-unfolding first places decimal numbered answerText storeText printed
-refused t r o = refl
+refused : (plan : ℕ) (t r o : List ℕ) → printed plan (Refused (refusal 4 2)) t r o ≡ bytes "refused 4 place 2\n"
+unfolding first places decimal numbered answerText answerLine planLine planText storeText printed
+refused plan t r o = refl
 
 no-roots : rootsLine [] ≡ bytes "roots\n"
 unfolding inTurn rootsLine

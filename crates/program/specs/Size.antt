@@ -13,10 +13,16 @@ use Rattle.texts.specs.Put.{Space}
 use Rattle.texts.specs.Short.{Short, short, both-short, shorter, either-short, word-short, numbered-any}
 use Rattle.listing.specs.Text.{listing}
 use Rattle.listing.specs.Size.{Bytes, listing-short}
-use Rattle.program.specs.Text.{swapsText, lackText, answerText, isRefused, storeText, printed}
+use Rattle.program.specs.Text.{swapsText, lackText, answerText, answerLine, isRefused, planLine, planText, storeText, printed}
 use Rattle.program.specs.Program.{mostText, Held}
 
--- ---- the first line, without its end: at most 146 bytes
+-- ---- the line of the plan: at most 27 bytes
+
+plan-short : (a : RunAnswer) (plan : ℕ) → Short (planText a plan) 27
+unfolding planText planLine
+plan-short a plan = either-short (isRefused a) (short zero-le) (both-short (numbered-any (bytes "plan ") plan) (word-short (bytes "\n")))
+
+-- ---- the line of the answer, without its end: at most 146 bytes
 
 swaps-short : (word : List ℕ) (s l : ℕ) → Short word 14 → Short (swapsText word s l) 62
 unfolding swapsText
@@ -40,10 +46,10 @@ unfolding storeText
 store-short a t r o m h = either-short (isRefused a) (short zero-le) h
 
 -- t and o are what a run left in the buffers, as long as they were before
-pub text-space : (a : RunAnswer) (t r o : List ℕ) {t₀ o₀ out : List ℕ} → Held t₀ r o₀ → mostText ≤ length out → length t ≡ length t₀ → length o ≡ length o₀
-    → Bytes t → Bytes r → Bytes o → Space out 0 (printed a t r o)
-unfolding printed
-text-space a t r o h m p q bt br bo =
+pub text-space : (plan : ℕ) (a : RunAnswer) (t r o : List ℕ) {t₀ o₀ out : List ℕ} → Held t₀ r o₀ → mostText ≤ length out
+    → length t ≡ length t₀ → length o ≡ length o₀ → Bytes t → Bytes r → Bytes o → Space out 0 (printed plan a t r o)
+unfolding printed answerLine
+text-space plan a t r o h m p q bt br bo =
     let store = store-short a t r o _ (listing-short t r o bt br bo (omega (arith, h .table))) in
-    let whole = both-short (both-short (answer-short a) (word-short (bytes "\n"))) store in
+    let whole = both-short (both-short (plan-short a plan) (both-short (answer-short a) (word-short (bytes "\n")))) store in
     record { fits = omega (arith, whole .most, h .table, h .roots, h .order) }

@@ -1,4 +1,4 @@
--- What is printed of a run: a line for its answer, and the listing of the store that it left.
+-- What is printed of a run: a line for its plan, one for its answer, and the listing of the store that it left; of a refused run the answer alone.
 -- docs/RULES.md, 7.2.
 use Prim.Native.Nat.{ℕ}
 use mathlib.Core.Bool.{Bool, true, false, cond}
@@ -9,7 +9,7 @@ use Rattle.slices.specs.declared.RunAnswer.the-variants.{Done, NoRoom, Paused, 
 use Rattle.texts.specs.Text.{bytes, numbered}
 use Rattle.listing.specs.Text.{listing}
 
--- ---- the first line
+-- ---- the line of the answer
 
 unfoldable pub swapsText : List ℕ → ℕ → ℕ → List ℕ
 swapsText word swaps left = numbered word swaps ++ numbered (bytes " left ") left
@@ -23,6 +23,9 @@ answerText (NoRoom swaps left lack) = swapsText (bytes "no room swaps ") swaps l
 answerText (Paused swaps left) = swapsText (bytes "paused swaps ") swaps left
 answerText (Refused refusal) = numbered (bytes "refused ") (refusal .number) ++ numbered (bytes " place ") (refusal .place)
 
+unfoldable pub answerLine : RunAnswer → List ℕ
+answerLine a = answerText a ++ bytes "\n"
+
 -- ---- the whole text
 
 abbrev pub isRefused : RunAnswer → Bool
@@ -31,9 +34,14 @@ isRefused (NoRoom swaps left lack) = false
 isRefused (Paused swaps left) = false
 isRefused (Refused refusal) = true
 
--- a refused run lists nothing
+unfoldable pub planLine : ℕ → List ℕ
+planLine plan = numbered (bytes "plan ") plan ++ bytes "\n"
+
+unfoldable pub planText : RunAnswer → ℕ → List ℕ
+planText a plan = cond (isRefused a) [] (planLine plan)
+
 unfoldable pub storeText : RunAnswer → List ℕ → List ℕ → List ℕ → List ℕ
 storeText a t r o = cond (isRefused a) [] (listing t r o)
 
-unfoldable pub printed : RunAnswer → List ℕ → List ℕ → List ℕ → List ℕ
-printed a t r o = answerText a ++ bytes "\n" ++ storeText a t r o
+unfoldable pub printed : ℕ → RunAnswer → List ℕ → List ℕ → List ℕ → List ℕ
+printed plan a t r o = planText a plan ++ answerLine a ++ storeText a t r o

@@ -1,13 +1,17 @@
-// What the program prints: from the bytes of its four files to the text, in one function. The other functions put their part of the text
+// What the program prints: from the bytes of its five files to the text, in one function. The other functions put their part of the text
 // into a lent list of bytes and hand back the place after it.
 ghost use mathlib.Core.Path.{_≡_};
-ghost use Prim.Native.Nat.{_≤_};
-ghost use lib.ListN.{length};
+ghost use Prim.Native.Nat.{_<_, _≤_};
+ghost use lib.ListN.{length, getD};
+ghost use Rattle.checks.specs.Stages.{verdictOf};
+ghost use Rattle.slices.specs.OneSwap.{plainSwap};
+ghost use Rattle.slices.specs.Run.{storeStages};
 ghost use Rattle.texts.specs.Put.{Put, Space, Printed};
-ghost use Rattle.program.specs.Text.{swapsText, lackText, answerText, isRefused, storeText, printed};
-ghost use Rattle.program.specs.Program.{Prints, mostText, Held};
+ghost use Rattle.program.specs.Text.{swapsText, lackText, answerText, answerLine, isRefused, planLine, planText, storeText, printed};
+ghost use Rattle.program.specs.Program.{unplanned, RanBy, Prints, mostText, Held};
 ghost use Rattle.slices.specs.declared.RunAnswer.the-variants.{NoRoom, Refused};
 use checks::Refusal;
+use checks::Verdict;
 use diagrams::MOST_RECORDS;
 use diagrams::MOST_ROOTS;
 use orders::Order;
@@ -17,16 +21,16 @@ use texts::put;
 use texts::put_numbered;
 
 // The most bytes that are printed of a full store, with one variable more than an order may have: 21 a record, 6 a root, 4 a
-// variable, and 159 for the first line and the words.
-pub const MOST_TEXT: usize = 21 * MOST_RECORDS + 6 * MOST_ROOTS + 4 * (Order::CEILING + 1) + 159;
+// variable, and 186 for the first two lines and the words.
+pub const MOST_TEXT: usize = 21 * MOST_RECORDS + 6 * MOST_ROOTS + 4 * (Order::CEILING + 1) + 186;
 
-// ---- the first line
+// ---- the line of the answer
 
-fn put_swaps(out: &mut [u8], word: &[u8], swaps: usize, left: usize) -> usize
-    requires { ⌜ Space (now out) 0 (swapsText (now word) swaps left) ⌝ }
-    ensures { λ r. ⌜ Put (now (out .entry)) 0 (swapsText (now (word .entry)) swaps left) (now (out .exit)) r ⌝ }
+fn put_swaps(out: &mut [u8], at: usize, word: &[u8], swaps: usize, left: usize) -> usize
+    requires { ⌜ Space (now out) at (swapsText (now word) swaps left) ⌝ }
+    ensures { λ r. ⌜ Put (now (out .entry)) at (swapsText (now (word .entry)) swaps left) (now (out .exit)) r ⌝ }
 {
-    let after_swaps = put_numbered(out, 0, word, swaps);
+    let after_swaps = put_numbered(out, at, word, swaps);
     put_numbered(out, after_swaps, b" left ", left)
 }
 
@@ -40,32 +44,40 @@ fn put_lack(out: &mut [u8], at: usize, lack: Lack) -> usize
     put_numbered(out, after_needed, b" free ", lack.free)
 }
 
-fn put_no_room(out: &mut [u8], swaps: usize, left: usize, lack: Lack) -> usize
-    requires { ⌜ Space (now out) 0 (answerText (NoRoom swaps left lack)) ⌝ }
-    ensures { λ r. ⌜ Put (now (out .entry)) 0 (answerText (NoRoom swaps left lack)) (now (out .exit)) r ⌝ }
+fn put_no_room(out: &mut [u8], at: usize, swaps: usize, left: usize, lack: Lack) -> usize
+    requires { ⌜ Space (now out) at (answerText (NoRoom swaps left lack)) ⌝ }
+    ensures { λ r. ⌜ Put (now (out .entry)) at (answerText (NoRoom swaps left lack)) (now (out .exit)) r ⌝ }
 {
-    let after_swaps = put_swaps(out, b"no room swaps ", swaps, left);
+    let after_swaps = put_swaps(out, at, b"no room swaps ", swaps, left);
     put_lack(out, after_swaps, lack)
 }
 
-fn put_refusal(out: &mut [u8], refusal: Refusal) -> usize
-    requires { ⌜ Space (now out) 0 (answerText (Refused refusal)) ⌝ }
-    ensures { λ r. ⌜ Put (now (out .entry)) 0 (answerText (Refused refusal)) (now (out .exit)) r ⌝ }
+fn put_refusal(out: &mut [u8], at: usize, refusal: Refusal) -> usize
+    requires { ⌜ Space (now out) at (answerText (Refused refusal)) ⌝ }
+    ensures { λ r. ⌜ Put (now (out .entry)) at (answerText (Refused refusal)) (now (out .exit)) r ⌝ }
 {
-    let after_number = put_numbered(out, 0, b"refused ", refusal.number as usize);
+    let after_number = put_numbered(out, at, b"refused ", refusal.number as usize);
     put_numbered(out, after_number, b" place ", refusal.place)
 }
 
-fn put_answer(out: &mut [u8], answer: RunAnswer) -> usize
-    requires { ⌜ Space (now out) 0 (answerText answer) ⌝ }
-    ensures { λ r. ⌜ Put (now (out .entry)) 0 (answerText answer) (now (out .exit)) r ⌝ }
+fn put_answer(out: &mut [u8], at: usize, answer: RunAnswer) -> usize
+    requires { ⌜ Space (now out) at (answerText answer) ⌝ }
+    ensures { λ r. ⌜ Put (now (out .entry)) at (answerText answer) (now (out .exit)) r ⌝ }
 {
     match answer {
-        RunAnswer::Done { swaps, left } => put_swaps(out, b"done swaps ", swaps, left),
-        RunAnswer::NoRoom { swaps, left, lack } => put_no_room(out, swaps, left, lack),
-        RunAnswer::Paused { swaps, left } => put_swaps(out, b"paused swaps ", swaps, left),
-        RunAnswer::Refused(refusal) => put_refusal(out, refusal),
+        RunAnswer::Done { swaps, left } => put_swaps(out, at, b"done swaps ", swaps, left),
+        RunAnswer::NoRoom { swaps, left, lack } => put_no_room(out, at, swaps, left, lack),
+        RunAnswer::Paused { swaps, left } => put_swaps(out, at, b"paused swaps ", swaps, left),
+        RunAnswer::Refused(refusal) => put_refusal(out, at, refusal),
     }
+}
+
+fn put_answer_line(out: &mut [u8], at: usize, answer: RunAnswer) -> usize
+    requires { ⌜ Space (now out) at (answerLine answer) ⌝ }
+    ensures { λ r. ⌜ Put (now (out .entry)) at (answerLine answer) (now (out .exit)) r ⌝ }
+{
+    let after_answer = put_answer(out, at, answer);
+    put(out, after_answer, b"\n")
 }
 
 fn is_refused(answer: RunAnswer) -> bool
@@ -80,6 +92,25 @@ fn is_refused(answer: RunAnswer) -> bool
 }
 
 // ---- the whole text
+
+fn put_plan_line(out: &mut [u8], plan: usize) -> usize
+    requires { ⌜ Space (now out) 0 (planLine plan) ⌝ }
+    ensures { λ r. ⌜ Put (now (out .entry)) 0 (planLine plan) (now (out .exit)) r ⌝ }
+{
+    let after_plan = put_numbered(out, 0, b"plan ", plan);
+    put(out, after_plan, b"\n")
+}
+
+// The plan's line, unless the run was refused.
+fn put_plan(out: &mut [u8], answer: RunAnswer, plan: usize) -> usize
+    requires { ⌜ Space (now out) 0 (planText answer plan) ⌝ }
+    ensures { λ r. ⌜ Put (now (out .entry)) 0 (planText answer plan) (now (out .exit)) r ⌝ }
+{
+    if is_refused(answer) {
+        return 0;
+    }
+    put_plan_line(out, plan)
+}
 
 // The listing, unless the run was refused.
 fn put_store(
@@ -99,13 +130,65 @@ fn put_store(
     listing::put_listing(out, at, table, roots, order)
 }
 
-fn print(out: &mut [u8], answer: RunAnswer, table: &[u8], roots: &[u8], order: &[u8]) -> usize
-    requires { ⌜ Space (now out) 0 (printed answer (now table) (now roots) (now order)) ⌝ }
-    ensures { λ n. ⌜ Printed (printed answer (now (table .entry)) (now (roots .entry)) (now (order .entry))) (now (out .entry)) (now (out .exit)) n ⌝ }
+fn print(
+    out: &mut [u8],
+    plan: usize,
+    answer: RunAnswer,
+    table: &[u8],
+    roots: &[u8],
+    order: &[u8],
+) -> usize
+    requires { ⌜ Space (now out) 0 (printed plan answer (now table) (now roots) (now order)) ⌝ }
+    ensures { λ n. ⌜ Printed (printed plan answer (now (table .entry)) (now (roots .entry)) (now (order .entry))) (now (out .entry)) (now (out .exit)) n ⌝ }
 {
-    let after_answer = put_answer(out, answer);
-    let after_line = put(out, after_answer, b"\n");
-    put_store(out, after_line, answer, table, roots, order)
+    let after_plan = put_plan(out, answer, plan);
+    let after_answer = put_answer_line(out, after_plan, answer);
+    put_store(out, after_answer, answer, table, roots, order)
+}
+
+// ---- the run
+
+// The first byte of trip.pln; 0 where it is empty.
+fn number_in(plan: &[u8]) -> usize
+    ensures { λ r. ⌜ (r ≡ getD (now (plan .entry)) 0 0) × (r < 256) ⌝ }
+{
+    if plan.len() == 0 {
+        return 0;
+    }
+    diagrams::wide(plan[0])
+}
+
+// No plan is told: the first of checks 1 to 9 that fails, or else 13.
+fn refuse(table: &[u8], roots: &[u8], order: &[u8], target: &[u8]) -> RunAnswer
+    ensures { λ a.
+        ⌜ a ≡ unplanned (verdictOf (storeStages plainSwap (now (table .entry)) (now (roots .entry)) (now (order .entry)) (now (target .entry)))) ⌝ }
+{
+    match slices::verdict_of_store(table, roots, order, target) {
+        Verdict::Refused(refusal) => RunAnswer::Refused(refusal),
+        Verdict::Clear => RunAnswer::Refused(Refusal {
+            number: 13,
+            place: 0,
+        }),
+    }
+}
+
+// By the plan whose number is the one byte of trip.pln.
+fn run(table: &mut [u8], roots: &[u8], order: &mut [u8], target: &[u8], plan: &[u8]) -> RunAnswer
+    ensures { λ a.
+        ⌜ RanBy (now (table .entry)) (now (roots .entry)) (now (order .entry)) (now (target .entry)) (now (plan .entry)) a
+        (now (table .exit)) (now (order .exit)) ⌝ }
+{
+    if plan.len() != 1 {
+        return refuse(table, roots, order, target);
+    }
+    slices::run(
+        table,
+        roots,
+        order,
+        target,
+        number_in(plan) as u32,
+        u32::MAX,
+    )
 }
 
 // All that the program prints for the bytes of its files, from the first byte of `out` on; how many bytes that is. Brings the table and
@@ -115,11 +198,14 @@ pub fn text(
     roots: &[u8],
     order: &mut [u8],
     target: &[u8],
+    plan: &[u8],
     out: &mut [u8],
 ) -> usize
     requires { ⌜ Held (now table) (now roots) (now order) × (mostText ≤ length (now out)) ⌝ }
-    ensures { λ n. ⌜ Prints (now (table .entry)) (now (roots .entry)) (now (order .entry)) (now (target .entry)) (now (out .entry)) (now (out .exit)) n ⌝ }
+    ensures { λ n.
+        ⌜ Prints (now (table .entry)) (now (roots .entry)) (now (order .entry)) (now (target .entry)) (now (plan .entry))
+        (now (out .entry)) (now (out .exit)) n ⌝ }
 {
-    let answer = slices::run(table, roots, order, target, u32::MAX);
-    print(out, answer, table, roots, order)
+    let answer = run(table, roots, order, target, plan);
+    print(out, number_in(plan), answer, table, roots, order)
 }

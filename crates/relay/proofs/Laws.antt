@@ -24,7 +24,6 @@ use Rattle.reading.specs.declared.ReadAnswer.the-variants as reading
 use Rattle.swaps.specs.Outcome as swap
 use Rattle.swaps.specs.Outcome.{SwapOutcome}
 use Rattle.swaps.specs.declared.SwapAnswer.{SwapAnswer}
-use Rattle.plans.specs.BringUp.{bringUp}
 use Rattle.slices.specs.OneSwap.{plainSwap}
 use Rattle.slices.specs.Run as run
 use Rattle.slices.specs.Run.{RunOutcome}
@@ -109,15 +108,15 @@ module _ (list t r o : List ℕ) (k : ℕ) where
     pub swap-told-fits : k < limit → Fits (swap.numbers a)
     swap-told-fits h = rw (← outcome) at (swap-fits t r o k h)
 
-module _ (list t r o g : List ℕ) (budget : ℕ) where
-  pub run-nothing : length list < 6 → RunTold t r o g budget list (wrote 0 list) t o
+module _ (list t r o g : List ℕ) (plan budget : ℕ) where
+  pub run-nothing : length list < 6 → RunTold t r o g plan budget list (wrote 0 list) t o
   unfolding toldRun
   run-nothing h = told-nothing 6 list t o _ _ _ h
 
-  module _ {a : RunAnswer} {t′ o′ : List ℕ} (outcome : RunOutcome plainSwap bringUp t r o g budget a t′ o′) where
-    pub run-told : {w : Written} → w ≡ written list (run.numbers a) → 6 ≤ length list → RunTold t r o g budget list w t′ o′
+  module _ {a : RunAnswer} {t′ o′ : List ℕ} (outcome : RunOutcome plainSwap plan t r o g budget a t′ o′) where
+    pub run-told : {w : Written} → w ≡ written list (run.numbers a) → 6 ≤ length list → RunTold t r o g plan budget list w t′ o′
     unfolding toldRun told
     run-told p h = rw (p, le-ltb (length list) 6 h, ← outcome)
 
-    pub run-told-fits : budget < limit → Fits (run.numbers a)
-    run-told-fits h = rw (← outcome) at (run-fits t r o g budget h)
+    pub run-told-fits : plan < limit → budget < limit → Fits (run.numbers a)
+    run-told-fits p b = rw (← outcome) at (run-fits t r o g plan budget p b)

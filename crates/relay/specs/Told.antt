@@ -7,7 +7,6 @@ use Rattle.checks.specs.Check as check
 use Rattle.reading.specs.Read as read
 use Rattle.reading.specs.Show as show
 use Rattle.swaps.specs.Outcome as swap
-use Rattle.plans.specs.BringUp.{bringUp}
 use Rattle.slices.specs.OneSwap.{plainSwap}
 use Rattle.slices.specs.Run as run
 use Rattle.relay.specs.Written.{Written, written, Told, told}
@@ -28,11 +27,11 @@ ShowTold t r o position list w = w ≡ written list (show.numbers (show.partOf t
 unfoldable pub toldSwap : List ℕ → List ℕ → List ℕ → List ℕ → ℕ → Told
 toldSwap list t r o k = let w = swap.swapOf t r o k in told 4 list t o (swap.numbers (w .answer)) (w .table) (w .order)
 
-unfoldable pub toldRun : List ℕ → List ℕ → List ℕ → List ℕ → List ℕ → ℕ → Told
-toldRun list t r o g budget = let w = run.runOf plainSwap bringUp t r o g budget in told 6 list t o (run.numbers (w .answer)) (w .table) (w .order)
+unfoldable pub toldRun : List ℕ → List ℕ → List ℕ → List ℕ → List ℕ → ℕ → ℕ → Told
+toldRun list t r o g plan budget = let w = run.runOf plainSwap plan t r o g budget in told 6 list t o (run.numbers (w .answer)) (w .table) (w .order)
 
 abbrev pub SwapTold : List ℕ → List ℕ → List ℕ → ℕ → List ℕ → Written → List ℕ → List ℕ → Type 0
 SwapTold t r o k list w t′ o′ = record { written = w; table = t′; order = o′ } ≡ toldSwap list t r o k
 
-abbrev pub RunTold : List ℕ → List ℕ → List ℕ → List ℕ → ℕ → List ℕ → Written → List ℕ → List ℕ → Type 0
-RunTold t r o g budget list w t′ o′ = record { written = w; table = t′; order = o′ } ≡ toldRun list t r o g budget
+abbrev pub RunTold : List ℕ → List ℕ → List ℕ → List ℕ → ℕ → ℕ → List ℕ → Written → List ℕ → List ℕ → Type 0
+RunTold t r o g plan budget list w t′ o′ = record { written = w; table = t′; order = o′ } ≡ toldRun list t r o g plan budget

@@ -171,15 +171,16 @@ pub extern "C" fn relay_run(
     roots: &[u8],
     order: &mut [u8],
     target: &[u8],
+    plan: u32,
     budget: u32,
     answer: &mut [u32],
 ) -> usize
-    ensures { λ n. ⌜ RunTold (now (table .entry)) (now (roots .entry)) (now (order .entry)) (now (target .entry)) budget
+    ensures { λ n. ⌜ RunTold (now (table .entry)) (now (roots .entry)) (now (order .entry)) (now (target .entry)) plan budget
         (now (answer .entry)) (wrote n (now (answer .exit))) (now (table .exit)) (now (order .exit)) ⌝ }
 {
     if answer.len() < 6 {
         return 0;
     }
-    let a = slices::run(table, roots, order, target, budget);
+    let a = slices::run(table, roots, order, target, plan, budget);
     tell_run(answer, a)
 }

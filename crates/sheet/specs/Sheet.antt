@@ -1,8 +1,10 @@
--- Cases A to H and J of the bench sheet, and two rows of our own: one table of examples under one claim. Each row is one run, over the bytes.
+-- Cases A to H and J of the bench sheet, G and H by every plan, and rows of our own: one table of examples under one claim. Each row is one run, over the
+-- bytes.
 use Prim.Native.Nat.{ℕ, _/_, _%_}
-use mathlib.Core.List.{List, [], _∷_, map}
+use mathlib.Core.List.{List, [], _∷_, _++_, map}
 use mathlib.Core.Path.{_≡_, refl}
 use Rattle.lists.specs.First.{first}
+use Rattle.lists.specs.Last.{last}
 use Rattle.lists.specs.Count.{count}
 use Rattle.lists.specs.Total.{total, pairs}
 use Rattle.lists.specs.Tabulate.{tabulate}
@@ -17,6 +19,10 @@ use Rattle.orders.specs.Exchange.{exchange}
 use Rattle.plans.specs.Inversions.{inverted, left}
 use Rattle.plans.specs.Plans.{differsAt, same?}
 use Rattle.plans.specs.BringUp.{bringUp, firstDifference}
+use Rattle.plans.specs.SinkDown.{sinkDown, lastDifference}
+use Rattle.plans.specs.Nearest.{invertedAt, lowestInversion, highestInversion}
+use Rattle.plans.specs.Numbered.{planOf, noPlan}
+use Rattle.checks.specs.Stages.{refusal}
 use Rattle.checks.specs.Opened.{openedStages}
 use Rattle.checks.specs.Check.{used}
 use Rattle.swap_rules.specs.Record.{lowOf, highOf, isFreeNode, isOf, same}
@@ -26,16 +32,17 @@ use Rattle.swaps.specs.Outcome.{neededIn, wayOf, lack, tableAfter}
 use Rattle.slice_rules.specs.Slices as over
 use Rattle.slice_rules.specs.Slices.{arrived, next, goes, made, leaves, slice}
 use Rattle.slices.specs.OneSwap.{plainSwap}
-use Rattle.slices.specs.Run.{Ran, relay, badRunSizes, runStages, answerOf, ranTo, runOf}
+use Rattle.slices.specs.Run.{Ran, relay, badRunSizes, storeStages, runStages, answerOf, ranTo, runOf}
 use Rattle.slices.specs.declared.RunAnswer.{RunAnswer}
-use Rattle.slices.specs.declared.RunAnswer.the-variants.{Done, NoRoom, Paused}
+use Rattle.slices.specs.declared.RunAnswer.the-variants.{Done, NoRoom, Paused, Refused}
 
--- the buffers and the budget of a run
+-- the buffers, the plan's number and the budget of a run
 pub record Given : Type 0 where
   pub records : List Node
   pub roots : List ℕ
   pub order : List ℕ
   pub target : List ℕ
+  pub plan : ℕ
   pub budget : ℕ
 
 -- the new records that its first swap needs, its answer, the records and the order afterwards, and how many records are used then
@@ -59,14 +66,14 @@ rootBytes (x ∷ s) = x % 256 ∷ x / 256 ∷ rootBytes s
 
 -- what the run gives, by the definition in its contract; `unfolding outcome` opens all that a run is computed with
 unfoldable pub outcome : Row → Outcome
-unfolding nodeAt decode eight encode rootsOf runOf runStages badRunSizes openedStages ranTo answerOf relay slice leaves over.judge made goes next arrived
-    same? differsAt bringUp firstDifference exchange left inverted pairs total first count tabulate keep once each which look lowOf highOf isFreeNode isOf
-    same grandchild f00 f01 f10 f11 crosses asked stands isNew wanted news stillNames dies slots slotOf X becomes needed freeCount fits slotIndex filled
-    recordAfter swapped wayOf tableAfter
+unfolding nodeAt decode eight encode rootsOf runOf runStages storeStages badRunSizes openedStages ranTo answerOf relay slice leaves over.judge made goes next
+    arrived same? planOf noPlan differsAt bringUp firstDifference sinkDown lastDifference invertedAt lowestInversion highestInversion exchange left
+    inverted pairs total first last count tabulate keep once each which look lowOf highOf isFreeNode isOf same grandchild f00 f01 f10 f11 crosses asked
+    stands isNew wanted news stillNames dies slots slotOf X becomes needed freeCount fits slotIndex filled recordAfter swapped wayOf tableAfter
 outcome row =
     let g = row .given in
-    let k = bringUp (g .order) (g .target) in
-    let w = runOf plainSwap bringUp (encode (g .records)) (rootBytes (g .roots)) (g .order) (g .target) (g .budget) in
+    let k = planOf (g .plan) (g .order) (g .target) in
+    let w = runOf plainSwap (g .plan) (encode (g .records)) (rootBytes (g .roots)) (g .order) (g .target) (g .budget) in
     record { needed = neededIn (encode (g .records)) (xAt (g .order) k) (yAt (g .order) k); ran = w; used = used (w .table) }
 
 -- what the sheet says
@@ -74,19 +81,24 @@ unfoldable pub expected : Row → Outcome
 expected row =
     record { needed = row .needed; ran = record { answer = row .answer; table = encode (row .records); order = row .order }; used = row .used }
 
--- order 0 1, target 1 0: records, roots, budget; needed, answer, records, order and used records afterwards
+-- order 0 1, target 1 0, by Bring Up: records, roots, budget; needed, answer, records, order and used records afterwards
 unfoldable pub swap : List Node → List ℕ → ℕ → ℕ → RunAnswer → List Node → List ℕ → ℕ → Row
 swap t r b n a t′ o u =
-    let g : Given = record { records = t; roots = r; order = 0 ∷ 1 ∷ []; target = 1 ∷ 0 ∷ []; budget = b } in
+    let g : Given = record { records = t; roots = r; order = 0 ∷ 1 ∷ []; target = 1 ∷ 0 ∷ []; plan = 0; budget = b } in
     record { given = g; needed = n; answer = a; records = t′; order = o; used = u }
 
--- no records, no roots
-unfoldable pub orders : List ℕ → List ℕ → ℕ → RunAnswer → List ℕ → Row
-orders o g b a o′ =
-    record { given = record { records = []; roots = []; order = o; target = g; budget = b }; needed = 0; answer = a; records = []; order = o′; used = 0 }
+-- no records, no roots: order, target, plan, budget; answer and order afterwards
+unfoldable pub orders : List ℕ → List ℕ → ℕ → ℕ → RunAnswer → List ℕ → Row
+orders o g p b a o′ =
+    let given : Given = record { records = []; roots = []; order = o; target = g; plan = p; budget = b } in
+    record { given = given; needed = 0; answer = a; records = []; order = o′; used = 0 }
 
-unfoldable pub rows : List Row
-rows =
+-- three swaps from o to g, by a plan: the orders after the first and the second
+unfoldable pub inThree : List ℕ → List ℕ → ℕ → List ℕ → List ℕ → List Row
+inThree o g p o₁ o₂ = orders o g p 1 (Paused 1 2) o₁ ∷ orders o g p 2 (Paused 2 1) o₂ ∷ orders o g p 9 (Done 3 0) g ∷ []
+
+unfoldable pub stores : List Row
+stores =
     -- A
     swap (node 1 0 1 ∷ node 0 0 2 ∷ free ∷ []) (3 ∷ []) 1
     1 (Done 1 0) (free ∷ node 1 0 4 ∷ node 0 0 1 ∷ []) (1 ∷ 0 ∷ []) 2
@@ -113,23 +125,35 @@ rows =
     -- two that ask for different ones: the lower record's goes to the lower free record
     ∷ swap (node 1 0 1 ∷ node 0 0 2 ∷ node 0 1 2 ∷ free ∷ free ∷ []) (3 ∷ 4 ∷ []) 1
     2 (Done 1 0) (free ∷ node 1 0 5 ∷ node 1 6 1 ∷ node 0 0 1 ∷ node 0 1 0 ∷ []) (1 ∷ 0 ∷ []) 4
-    -- G: each order on the way
-    ∷ orders (0 ∷ 1 ∷ 2 ∷ []) (2 ∷ 1 ∷ 0 ∷ []) 1 (Paused 1 2) (0 ∷ 2 ∷ 1 ∷ [])
-    ∷ orders (0 ∷ 1 ∷ 2 ∷ []) (2 ∷ 1 ∷ 0 ∷ []) 2 (Paused 2 1) (2 ∷ 0 ∷ 1 ∷ [])
-    ∷ orders (0 ∷ 1 ∷ 2 ∷ []) (2 ∷ 1 ∷ 0 ∷ []) 9 (Done 3 0) (2 ∷ 1 ∷ 0 ∷ [])
-    -- H: each order on the way
-    ∷ orders (0 ∷ 1 ∷ 2 ∷ 3 ∷ []) (1 ∷ 3 ∷ 0 ∷ 2 ∷ []) 1 (Paused 1 2) (1 ∷ 0 ∷ 2 ∷ 3 ∷ [])
-    ∷ orders (0 ∷ 1 ∷ 2 ∷ 3 ∷ []) (1 ∷ 3 ∷ 0 ∷ 2 ∷ []) 2 (Paused 2 1) (1 ∷ 0 ∷ 3 ∷ 2 ∷ [])
-    ∷ orders (0 ∷ 1 ∷ 2 ∷ 3 ∷ []) (1 ∷ 3 ∷ 0 ∷ 2 ∷ []) 9 (Done 3 0) (1 ∷ 3 ∷ 0 ∷ 2 ∷ [])
     -- J: budget 0 in A, in B, and with the order equal to the target
     ∷ swap (node 1 0 1 ∷ node 0 0 2 ∷ free ∷ []) (3 ∷ []) 0
     1 (Paused 0 1) (node 1 0 1 ∷ node 0 0 2 ∷ free ∷ []) (0 ∷ 1 ∷ []) 2
     ∷ swap (node 1 0 1 ∷ node 0 0 2 ∷ []) (3 ∷ []) 0
     1 (NoRoom 0 1 (lack 0 1 0)) (node 1 0 1 ∷ node 0 0 2 ∷ []) (0 ∷ 1 ∷ []) 2
-    ∷ orders (1 ∷ 0 ∷ []) (1 ∷ 0 ∷ []) 0 (Done 0 0) (1 ∷ 0 ∷ [])
+    ∷ orders (1 ∷ 0 ∷ []) (1 ∷ 0 ∷ []) 0 0 (Done 0 0) (1 ∷ 0 ∷ [])
+    -- no plan has this number; a check of the table that fails wins over that
+    ∷ orders (0 ∷ 1 ∷ []) (1 ∷ 0 ∷ []) 4 1 (Refused (refusal 13 4)) (0 ∷ 1 ∷ [])
+    ∷ orders (0 ∷ 1 ∷ []) (1 ∷ 1 ∷ []) 4 1 (Refused (refusal 3 1)) (0 ∷ 1 ∷ [])
     ∷ []
+
+-- each order on the way, by every plan
+unfoldable pub ways : List Row
+ways =
+    -- G
+    inThree (0 ∷ 1 ∷ 2 ∷ []) (2 ∷ 1 ∷ 0 ∷ []) 0 (0 ∷ 2 ∷ 1 ∷ []) (2 ∷ 0 ∷ 1 ∷ [])
+    ++ inThree (0 ∷ 1 ∷ 2 ∷ []) (2 ∷ 1 ∷ 0 ∷ []) 1 (1 ∷ 0 ∷ 2 ∷ []) (1 ∷ 2 ∷ 0 ∷ [])
+    ++ inThree (0 ∷ 1 ∷ 2 ∷ []) (2 ∷ 1 ∷ 0 ∷ []) 2 (0 ∷ 2 ∷ 1 ∷ []) (2 ∷ 0 ∷ 1 ∷ [])
+    ++ inThree (0 ∷ 1 ∷ 2 ∷ []) (2 ∷ 1 ∷ 0 ∷ []) 3 (1 ∷ 0 ∷ 2 ∷ []) (1 ∷ 2 ∷ 0 ∷ [])
+    -- H
+    ++ inThree (0 ∷ 1 ∷ 2 ∷ 3 ∷ []) (1 ∷ 3 ∷ 0 ∷ 2 ∷ []) 0 (1 ∷ 0 ∷ 2 ∷ 3 ∷ []) (1 ∷ 0 ∷ 3 ∷ 2 ∷ [])
+    ++ inThree (0 ∷ 1 ∷ 2 ∷ 3 ∷ []) (1 ∷ 3 ∷ 0 ∷ 2 ∷ []) 1 (0 ∷ 1 ∷ 3 ∷ 2 ∷ []) (1 ∷ 0 ∷ 3 ∷ 2 ∷ [])
+    ++ inThree (0 ∷ 1 ∷ 2 ∷ 3 ∷ []) (1 ∷ 3 ∷ 0 ∷ 2 ∷ []) 2 (0 ∷ 1 ∷ 3 ∷ 2 ∷ []) (1 ∷ 0 ∷ 3 ∷ 2 ∷ [])
+    ++ inThree (0 ∷ 1 ∷ 2 ∷ 3 ∷ []) (1 ∷ 3 ∷ 0 ∷ 2 ∷ []) 3 (1 ∷ 0 ∷ 2 ∷ 3 ∷ []) (1 ∷ 0 ∷ 3 ∷ 2 ∷ [])
+
+unfoldable pub rows : List Row
+rows = stores ++ ways
 
 -- every row comes out as the sheet has it
 pub sheet : map outcome rows ≡ map expected rows
-unfolding outcome expected rows swap orders rootBytes
+unfolding outcome expected rows stores ways swap orders inThree rootBytes
 sheet = refl

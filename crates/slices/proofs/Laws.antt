@@ -18,8 +18,9 @@ use Rattle.orders.specs.Order.{loadOrder, exchangedOrder, Inverse}
 use Rattle.orders.specs.Arranged.{bytesOf, Arranged, load-bytes, load-arranged, arranged-length, arranged-inverse, exchanged-arranged, exchanged-bytes}
 use Rattle.orders.specs.declared.Order.{Order}
 use Rattle.plans.specs.Inversions.{left}
-use Rattle.plans.specs.Plans.{Plan, Lawful, same?}
-use Rattle.plans.specs.BringUp.{bring-up-lawful}
+use Rattle.plans.specs.Plans.{Plan, same?}
+use Rattle.plans.specs.Numbered.{planOf, noPlan, meant, meant-lawful}
+use Rattle.plans.specs.declared.Plan as coded
 use Rattle.plans.specs.Towards.{arranged-adjacent}
 use Rattle.slice_rules.specs.Slices as over
 use Rattle.slice_rules.specs.Slices.{slicing-begins, slicing-goes, slicing-rests, slicing-ends}
@@ -37,7 +38,7 @@ use Rattle.swaps.specs.declared.Way.the-variants as way
 use Rattle.slices.specs.OneSwap.{plainSwap}
 use Rattle.slices.specs.Run.{State, relay, badRunSizes, runStages, answerOf, ranTo, runJudged, runOf, SliceDone, RunOutcome}
 use Rattle.slices.specs.Run.{stateOf, Stepped, Driven, judgedOn}
-use Rattle.slices.specs.Theorems.{Startable, run-starts}
+use Rattle.slices.specs.Theorems.{Ready, Startable, run-starts}
 use Rattle.slices.specs.declared.RunAnswer.{RunAnswer}
 use Rattle.slices.specs.declared.RunAnswer.the-variants.{Done, NoRoom, Paused, Refused}
 use Rattle.slices.specs.declared.Turn.{Turn}
@@ -78,7 +79,7 @@ pub same-sizes : (t t₀ : List ℕ) {r : List ℕ} → length t ≡ length t₀
 same-sizes t t₀ e s = record { few-records = rw e (s .few-records); whole-records = rw e (s .whole-records); few-roots = s .few-roots }
 
 -- a run that no check refuses
-module _ (t r o g : List ℕ) (starts : Startable plainSwap t r o g) where
+module _ (t r o g : List ℕ) (starts : Ready plainSwap t r o g) where
   pub target-short : length g ≤ ceiling
   target-short = omega (arith, starts .usable .sizes .few-variables, starts .long)
 
@@ -111,12 +112,15 @@ module _ (t r o g : List ℕ) (starts : Startable plainSwap t r o g) where
       start-bytes : bytesOf start (length o) ≡ o
       start-bytes = rw start-is (load-bytes o order-short)
 
-pub run-startable : (t r o g : List ℕ) {v : Verdict} → v ≡ verdictOf (runStages plainSwap t r o g) → v ≡ verdict.Clear → Startable plainSwap t r o g
-run-startable t r o g judged e = run-starts plainSwap t r o g (clear-only (runStages plainSwap t r o g) (sym judged ∙ e))
+pub run-ready : (number : ℕ) (t r o g : List ℕ) {v : Verdict} → v ≡ verdictOf (runStages plainSwap number t r o g) → v ≡ verdict.Clear → Ready plainSwap t r o g
+run-ready number t r o g judged e = run-starts plainSwap t r o g number (clear-only (runStages plainSwap number t r o g) (sym judged ∙ e)) .ready
 
--- ---- by a plan with its law
+-- ---- by the plan that the code's name of it means
 
-module _ (plan : Plan) (lawful : Lawful plan) where
+module _ (name : coded.Plan) where
+  abbrev plan : Plan
+  plan = meant name
+
   -- ---- the plan's pair of levels
 
   module _ {order goal : Order} {n : ℕ} (h : Arranged order n) (i : Arranged goal n)
@@ -124,7 +128,7 @@ module _ (plan : Plan) (lawful : Lawful plan) where
       {k : ℕ} (planned : k ≡ plan (bytesOf order n) (bytesOf goal n)) where
     pub plan-inside : k + 1 < n
     plan-inside =
-        let l = rw (arranged-length h) at (arranged-adjacent h i (sym same ∙ apart) lawful .within) in
+        let l = rw (arranged-length h) at (arranged-adjacent h i (sym same ∙ apart) (meant-lawful name) .within) in
         rw planned l
 
     pub plan-low : k + 1 < ceiling
@@ -254,7 +258,7 @@ module _ (plan : Plan) (lawful : Lawful plan) where
   unfolding ranTo over.slice relay
   ran-is r g budget s x swaps e f = rw (e, f)
 
-  module _ (t r o g : List ℕ) (starts : Startable plainSwap t r o g) {goal start : Order} (goal-is : goal ≡ loadOrder g) (start-is : start ≡ loadOrder o) where
+  module _ (t r o g : List ℕ) (starts : Ready plainSwap t r o g) {goal start : Order} (goal-is : goal ≡ loadOrder g) (start-is : start ≡ loadOrder o) where
     pub slice-done : {budget : ℕ} {end : Reached} {t′ o′ : List ℕ} {a : RunAnswer} → Driven plainSwap plan t r start goal (length o) budget end t′
         → o′ ≡ bytesOf (end .order) (length o) → a ≡ judgedOn plainSwap plan t′ r (end .order) goal (length o) (end .swaps)
         → SliceDone plainSwap plan t r o g budget a t′ o′
@@ -269,24 +273,27 @@ module _ (plan : Plan) (lawful : Lawful plan) where
         ∙ ap (λ z. record { answer = z; table = t′; order = bytesOf (end .order) n }) (rw towards at q)
         ∙ ran-is r g budget s (stateOf t′ (end .order) n) (end .swaps) made left
 
-  module _ (t r o g : List ℕ) (budget : ℕ) {v : Verdict} (judged : v ≡ verdictOf (runStages plainSwap t r o g)) where
-    pub run-refused : {f : Refusal} → v ≡ verdict.Refused f → RunOutcome plainSwap plan t r o g budget (Refused f) t o
-    unfolding runOf
-    run-refused e = ap (runJudged plainSwap plan t r o g budget) (sym e ∙ judged)
+module _ (number : ℕ) (t r o g : List ℕ) (budget : ℕ) {v : Verdict} (judged : v ≡ verdictOf (runStages plainSwap number t r o g)) where
+  pub run-refused : {f : Refusal} → v ≡ verdict.Refused f → RunOutcome plainSwap number t r o g budget (Refused f) t o
+  unfolding runOf
+  run-refused e = ap (runJudged plainSwap (planOf number) t r o g budget) (sym e ∙ judged)
 
-    pub run-sliced : {a : RunAnswer} {t′ o′ : List ℕ} → v ≡ verdict.Clear → SliceDone plainSwap plan t r o g budget a t′ o′
-        → RunOutcome plainSwap plan t r o g budget a t′ o′
-    unfolding runOf
-    run-sliced e d = d ∙ ap (runJudged plainSwap plan t r o g budget) (sym e ∙ judged)
+  pub run-sliced : (plan : coded.Plan) {a : RunAnswer} {t′ o′ : List ℕ} → v ≡ verdict.Clear → meant plan ≡ planOf number
+      → SliceDone plainSwap (meant plan) t r o g budget a t′ o′ → RunOutcome plainSwap number t r o g budget a t′ o′
+  unfolding runOf
+  run-sliced plan e p d =
+      d
+      ∙ ap (λ z. runJudged plainSwap z t r o g budget verdict.Clear) p
+      ∙ ap (runJudged plainSwap (planOf number) t r o g budget) (sym e ∙ judged)
 
--- ---- to be searched; the plan is found by its law
+-- ---- to be searched
 
-pub ruleset planning = (few-levels, differ, plan-low, order-inverse, asking, bring-up-lawful, needs)
+pub ruleset planning = (few-levels, differ, plan-low, order-inverse, asking, needs)
 
-pub ruleset stepping = (step-arrived, step-stuck, step-made, bring-up-lawful)
+pub ruleset stepping = (step-arrived, step-stuck, step-made)
 
-pub ruleset judging = (judge-done, judge-stuck, judge-paused, bring-up-lawful)
+pub ruleset judging = (judge-done, judge-stuck, judge-paused)
 
-pub ruleset driving = (bring-up-lawful, drive-begins, drive-sized, drive-arranged, drive-rests, drive-goes, drive-ends, needs)
+pub ruleset driving = (drive-begins, drive-sized, drive-arranged, drive-rests, drive-goes, drive-ends, needs)
 
-pub ruleset starting = (bring-up-lawful, target-short, target-permuted, order-short, order-permuted, table-sized, goal-arranged, start-arranged, needs)
+pub ruleset starting = (target-short, target-permuted, order-short, order-permuted, table-sized, goal-arranged, start-arranged, needs)

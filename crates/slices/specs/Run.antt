@@ -1,9 +1,9 @@
--- Run: one slice towards the target with a budget. It is done, or without room, or paused, or refused with 1 to 9. The whole outcome, over the bytes, by any
--- plan and for any edition of the table.
+-- Run: one slice towards the target, by the plan with a number, with a budget. It is done, or without room, or paused, or refused with 1 to 9 or 13. The whole
+-- outcome, over the bytes, for any edition of the table.
 -- docs/RULES.md, 3 and 5.
 use Prim.Native.Nat.{ℕ, _≤_}
 use mathlib.Core.Bool.{Bool, true, false, not, _||_}
-use mathlib.Core.List.{List, [], _∷_}
+use mathlib.Core.List.{List, [], _∷_, _++_}
 use mathlib.Core.Path.{_≡_}
 use lib.Dec.{eqb}
 use lib.ListN.{length}
@@ -11,6 +11,7 @@ use Rattle.orders.specs.Exchange.{exchange}
 use Rattle.orders.specs.Arranged.{bytesOf, Arranged}
 use Rattle.orders.specs.declared.Order.{Order}
 use Rattle.plans.specs.Plans.{Plan}
+use Rattle.plans.specs.Numbered.{planOf, noPlan}
 use Rattle.plans.specs.Inversions.{left}
 use Rattle.slice_rules.specs.Slices as over
 use Rattle.slice_rules.specs.Slices.{Relay, Judgement, done, meets, SliceOf}
@@ -41,12 +42,15 @@ relay W r = record {
   swapped = λ s k. record { table = W .tableAfter (s .table) r (s .order) k; order = exchange (s .order) k };
 }
 
--- ---- the refusals: 1 asks for a target of n bytes too; 3 is 2 of the target
+-- ---- the refusals: 1 asks for a target of n bytes too; 3 is 2 of the target; 13 comes after those of the table
 unfoldable pub badRunSizes : List ℕ → List ℕ → List ℕ → List ℕ → Bool
 badRunSizes t r o g = badSizes t r o || not (eqb (length g) (length o))
 
-unfoldable pub runStages : OneSwap → List ℕ → List ℕ → List ℕ → List ℕ → List Stage
-runStages W t r o g = stageAt 1 0 (badRunSizes t r o g) ∷ orderStage 2 o ∷ orderStage 3 g ∷ W .tableStages t r o
+unfoldable pub storeStages : OneSwap → List ℕ → List ℕ → List ℕ → List ℕ → List Stage
+storeStages W t r o g = stageAt 1 0 (badRunSizes t r o g) ∷ orderStage 2 o ∷ orderStage 3 g ∷ W .tableStages t r o
+
+unfoldable pub runStages : OneSwap → ℕ → List ℕ → List ℕ → List ℕ → List ℕ → List Stage
+runStages W number t r o g = storeStages W t r o g ++ (stageAt 13 number (noPlan number) ∷ [])
 
 -- ---- the answer, judged on the state left: done where the order is the target, no room where the next planned swap has none, else paused
 unfoldable pub answerOf : ℕ → ℕ → Judgement Way → RunAnswer
@@ -73,8 +77,10 @@ module _ (W : OneSwap) (plan : Plan) where
   abbrev pub SliceDone : List ℕ → List ℕ → List ℕ → List ℕ → ℕ → RunAnswer → List ℕ → List ℕ → Type 0
   SliceDone t r o g budget a t′ o′ = record { answer = a; table = t′; order = o′ } ≡ runJudged t r o g budget verdict.Clear
 
+-- by the plan with a number
+module _ (W : OneSwap) (number : ℕ) where
   unfoldable pub runOf : List ℕ → List ℕ → List ℕ → List ℕ → ℕ → Ran
-  runOf t r o g budget = runJudged t r o g budget (verdictOf (runStages W t r o g))
+  runOf t r o g budget = runJudged W (planOf number) t r o g budget (verdictOf (runStages W number t r o g))
 
   -- what Run may answer, and leave in the buffers
   abbrev pub RunOutcome : List ℕ → List ℕ → List ℕ → List ℕ → ℕ → RunAnswer → List ℕ → List ℕ → Type 0

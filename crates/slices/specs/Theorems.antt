@@ -1,8 +1,8 @@
--- What Run answers and leaves, over the bytes, by any lawful plan: one outcome for each input; when it refuses; the table can be used again and every root
--- keeps its value; the orders are the plan's; what each answer says.
+-- What Run answers and leaves, over the bytes, by the plan with any number: one outcome for each input; when it refuses; the table can be used again and every
+-- root keeps its value; the orders are the plan's; what each answer says.
 use Prim.Native.Nat.{ℕ, _+_, _≤_, _<_}
 use mathlib.Core.Bool.{Bool, true, false, not}
-use mathlib.Core.List.{List, _∷_}
+use mathlib.Core.List.{List, [], _∷_}
 use mathlib.Core.Logic.{_⊎_, inl, inr, ⊎-elim}
 use mathlib.Core.Path.{_≡_, refl, ap, sym, _∙_}
 use native.Mathlib.Omega.{arith}
@@ -17,10 +17,12 @@ use Rattle.check_permutation.specs.BadPlace.{permutation-if, permutation-then}
 use Rattle.orders.specs.Exchange.{length-exchange}
 use Rattle.plans.specs.Inversions.{left, left-same}
 use Rattle.plans.specs.Plans.{Plan, Lawful, reached}
+use Rattle.plans.specs.Numbered.{planOf, noPlan, plan-of-lawful}
 use Rattle.slice_rules.specs.Slices as over
 use Rattle.slice_rules.specs.Slices.{Relay, RelayLaws, done, meets}
 use Rattle.check_sizes.specs.Sizes.{Sizes, sizes-if, sizes-then, badSizes}
-use Rattle.checks.specs.Stages.{AllPass, also, only-passed, passed-only, FailsFirst, refusal, verdictOf, clear-if, clear-only, refused-if, refused-only}
+use Rattle.checks.specs.Stages.{Stage, AllPass, none, also, both-rows, rows-pass, stageAt, only-passed, passed-only}
+use Rattle.checks.specs.Stages.{FailsFirst, refusal, verdictOf, clear-if, clear-only, refused-if, refused-only}
 use Rattle.checks.specs.declared.Refusal.{Refusal}
 use Rattle.checks.specs.declared.Verdict.{Verdict}
 use Rattle.checks.specs.declared.Verdict.the-variants as verdict
@@ -30,7 +32,7 @@ use Rattle.swaps.specs.declared.Way.the-variants as way
 use Rattle.swaps.specs.declared.Lack.{Lack}
 use Rattle.swaps.specs.declared.SwapAnswer.the-variants as swap
 use Rattle.slices.specs.OneSwap.{OneSwap}
-use Rattle.slices.specs.Run.{State, relay, badRunSizes, runStages, answerOf, Ran, ranTo, runJudged, runOf, RunOutcome}
+use Rattle.slices.specs.Run.{State, relay, badRunSizes, storeStages, runStages, answerOf, Ran, ranTo, runJudged, runOf, RunOutcome}
 use Rattle.slices.specs.Answers.{swapsIn, leftIn, answer-swaps, answer-left, answer-done, answer-paused, answer-no-room, answer-not-refused}
 use Rattle.slices.specs.declared.RunAnswer.{RunAnswer}
 use Rattle.slices.specs.declared.RunAnswer.the-variants.{Done, NoRoom, Paused, Refused}
@@ -44,15 +46,20 @@ run-sizes t r o g e =
     (sizes-if t r o (w .0), eqb-true (length g) (length o) (not-false (eqb (length g) (length o)) (w .1)))
 
 -- a table that the relay can use, and a permutation of its variables as the target
-pub record Startable (W : OneSwap) (t r o g : List ℕ) : Type 0 where
+pub record Ready (W : OneSwap) (t r o g : List ℕ) : Type 0 where
   pub usable : W .Usable t r o
   pub target : Permutation g
   pub long : length g ≡ length o
 
+-- and a number that a plan has
+pub record Startable (W : OneSwap) (number : ℕ) (t r o g : List ℕ) : Type 0 where
+  pub ready : Ready W t r o g
+  pub plan : noPlan number ≡ false
+
 module _ (W : OneSwap) (t r o g : List ℕ) where
-  pub run-starts : AllPass (runStages W t r o g) → Startable W t r o g
-  unfolding runStages
-  run-starts (also h (also p (also q rest))) =
+  store-ready : AllPass (storeStages W t r o g) → Ready W t r o g
+  unfolding storeStages
+  store-ready (also h (also p (also q rest))) =
       let w = run-sizes t r o g (passed-only 0 h) in
       record {
         usable = W .usable-if t r o (also (only-passed 0 (sizes-then t r o (w .0))) (also p rest));
@@ -60,12 +67,27 @@ module _ (W : OneSwap) (t r o g : List ℕ) where
         long = w .1;
       }
 
-  pub run-passes : Startable W t r o g → AllPass (runStages W t r o g)
-  unfolding runStages badRunSizes
-  run-passes s =
+  store-passes : Ready W t r o g → AllPass (storeStages W t r o g)
+  unfolding storeStages badRunSizes
+  store-passes s =
       let sized : badRunSizes t r o g ≡ false = rw (sizes-then t r o (W .sizes t r o (s .usable)), eq-eqb (length g) (length o) (s .long)) in
       also (only-passed 0 sized)
       (also (permutation-then o (W .permutation t r o (s .usable))) (also (permutation-then g (s .target)) (W .usable-passes t r o (s .usable))))
+
+  module _ (number : ℕ) where
+    abbrev planStage : List Stage
+    planStage = stageAt 13 number (noPlan number) ∷ []
+
+    plan-there : AllPass planStage → noPlan number ≡ false
+    plan-there (also h none) = passed-only number h
+
+    pub run-starts : AllPass (runStages W number t r o g) → Startable W number t r o g
+    unfolding runStages
+    run-starts p = let w = both-rows (storeStages W t r o g) planStage p in record { ready = store-ready (w .0); plan = plan-there (w .1) }
+
+    pub run-passes : Startable W number t r o g → AllPass (runStages W number t r o g)
+    unfolding runStages
+    run-passes s = rows-pass (storeStages W t r o g) planStage (store-passes (s .ready)) (also (only-passed number (s .plan)) none)
 
 -- ---- the state that a slice drives obeys the laws of a relay
 
@@ -82,44 +104,51 @@ relay-laws W r n = record {
   order-swapped = λ s k w l f. refl;
 }
 
-module _ (W : OneSwap) (plan : Plan) (t r o g : List ℕ) where
+module _ (W : OneSwap) (number : ℕ) (t r o g : List ℕ) where
   -- one outcome for each input
   pub run-one : (b : ℕ) {a a′ : RunAnswer} {t₁ t₂ o₁ o₂ : List ℕ}
-      → RunOutcome W plan t r o g b a t₁ o₁ → RunOutcome W plan t r o g b a′ t₂ o₂ → (a ≡ a′) × (t₁ ≡ t₂) × (o₁ ≡ o₂)
+      → RunOutcome W number t r o g b a t₁ o₁ → RunOutcome W number t r o g b a′ t₂ o₂ → (a ≡ a′) × (t₁ ≡ t₂) × (o₁ ≡ o₂)
   run-one b p q = (ap (λ (s : Ran). s .answer) (p ∙ sym q), ap (λ (s : Ran). s .table) (p ∙ sym q), ap (λ (s : Ran). s .order) (p ∙ sym q))
 
   -- Run refuses with k at x exactly where check k fails at x, at no place before it, and every earlier check passes everywhere; it changes nothing then
-  pub run-refuses : (b k x : ℕ) → FailsFirst (runStages W t r o g) k x
-      → runOf W plan t r o g b ≡ record { answer = Refused (refusal k x); table = t; order = o }
+  pub run-refuses : (b k x : ℕ) → FailsFirst (runStages W number t r o g) k x
+      → runOf W number t r o g b ≡ record { answer = Refused (refusal k x); table = t; order = o }
   unfolding runOf
-  run-refuses b k x f = ap (runJudged W plan t r o g b) (refused-if (runStages W t r o g) k x f)
+  run-refuses b k x f = ap (runJudged W (planOf number) t r o g b) (refused-if (runStages W number t r o g) k x f)
 
-  pub run-refuses-only : (b k x : ℕ) → runOf W plan t r o g b .answer ≡ Refused (refusal k x) → FailsFirst (runStages W t r o g) k x
+  pub run-refuses-only : (b k x : ℕ) → runOf W number t r o g b .answer ≡ Refused (refusal k x) → FailsFirst (runStages W number t r o g) k x
   unfolding runOf ranTo
-  run-refuses-only b k x e = refused-only (runStages W t r o g) k x (go (verdictOf (runStages W t r o g)) e)
+  run-refuses-only b k x e = refused-only (runStages W number t r o g) k x (go (verdictOf (runStages W number t r o g)) e)
     where
-      go : (v : Verdict) → runJudged W plan t r o g b v .answer ≡ Refused (refusal k x) → v ≡ verdict.Refused (refusal k x)
+      go : (v : Verdict) → runJudged W (planOf number) t r o g b v .answer ≡ Refused (refusal k x) → v ≡ verdict.Refused (refusal k x)
       go verdict.Clear q = answer-not-refused _ _ _ (refusal k x) q
       go (verdict.Refused f) q = let p : f ≡ refusal k x = cc in ap verdict.Refused p
 
-  pub refused-keeps : (b : ℕ) (f : Refusal) → runOf W plan t r o g b .answer ≡ Refused f
-      → (runOf W plan t r o g b .table ≡ t) × (runOf W plan t r o g b .order ≡ o)
+  pub refused-keeps : (b : ℕ) (f : Refusal) → runOf W number t r o g b .answer ≡ Refused f
+      → (runOf W number t r o g b .table ≡ t) × (runOf W number t r o g b .order ≡ o)
   refused-keeps b f e =
       let q = run-refuses b (f .number) (f .place) (run-refuses-only b (f .number) (f .place) e) in
       (ap (λ (w : Ran). w .table) q, ap (λ (w : Ran). w .order) q)
 
   -- an answer that is no refusal comes from a table that can be used and a target of its variables
-  pub run-startable : (b : ℕ) → ((f : Refusal) → runOf W plan t r o g b .answer ≡ Refused f → ⊥) → Startable W t r o g
+  pub run-startable : (b : ℕ) → ((f : Refusal) → runOf W number t r o g b .answer ≡ Refused f → ⊥) → Startable W number t r o g
   unfolding runOf
-  run-startable b n = go (verdictOf (runStages W t r o g)) refl n
+  run-startable b n = go (verdictOf (runStages W number t r o g)) refl n
     where
-      go : (v : Verdict) → verdictOf (runStages W t r o g) ≡ v → ((f : Refusal) → runJudged W plan t r o g b v .answer ≡ Refused f → ⊥) → Startable W t r o g
-      go verdict.Clear e m = run-starts W t r o g (clear-only (runStages W t r o g) e)
+      go : (v : Verdict) → verdictOf (runStages W number t r o g) ≡ v
+          → ((f : Refusal) → runJudged W (planOf number) t r o g b v .answer ≡ Refused f → ⊥) → Startable W number t r o g
+      go verdict.Clear e m = run-starts W t r o g number (clear-only (runStages W number t r o g) e)
       go (verdict.Refused f) e m = absurd (m f refl)
 
 -- ---- a run that starts
 
-module _ (W : OneSwap) (plan : Plan) (lawful : Lawful plan) (t r o g : List ℕ) (starts : Startable W t r o g) where
+module _ (W : OneSwap) (number : ℕ) (t r o g : List ℕ) (starts : Startable W number t r o g) where
+  abbrev plan : Plan
+  plan = planOf number
+
+  lawful : Lawful plan
+  lawful = plan-of-lawful number
+
   abbrev s₀ : State
   s₀ = record { table = t; order = o }
 
@@ -127,25 +156,25 @@ module _ (W : OneSwap) (plan : Plan) (lawful : Lawful plan) (t r o g : List ℕ)
   R = relay W r
 
   abbrev ran : ℕ → Ran
-  ran b = runOf W plan t r o g b
+  ran b = runOf W number t r o g b
 
   -- the state that the slice leaves
   abbrev end : ℕ → State
   end b = over.leaves R plan g b s₀
 
   -- every check passes: the run is the slice
-  pub run-is : (b : ℕ) → runOf W plan t r o g b ≡ ranTo (over.slice R plan g b s₀)
+  pub run-is : (b : ℕ) → runOf W number t r o g b ≡ ranTo (over.slice R plan g b s₀)
   unfolding runOf
-  run-is b = ap (runJudged W plan t r o g b) (clear-if (runStages W t r o g) (run-passes W t r o g starts))
+  run-is b = ap (runJudged W (planOf number) t r o g b) (clear-if (runStages W number t r o g) (run-passes W t r o g number starts))
 
   good-start : Good W r (length g) s₀
-  good-start = (starts .usable, sym (starts .long))
+  good-start = (starts .ready .usable, sym (starts .ready .long))
 
   laws : RelayLaws R (length g) (Good W r (length g))
   laws = relay-laws W r (length g)
 
   good-end : (b : ℕ) → Good W r (length g) (end b)
-  good-end b = over.good-after R plan g (Good W r (length g)) laws lawful (starts .target) b s₀ good-start
+  good-end b = over.good-after R plan g (Good W r (length g)) laws lawful (starts .ready .target) b s₀ good-start
 
   pub run-state : (b : ℕ) → record { table = ran b .table; order = ran b .order } ≡ end b
   unfolding ranTo over.slice
@@ -163,18 +192,19 @@ module _ (W : OneSwap) (plan : Plan) (lawful : Lawful plan) (t r o g : List ℕ)
   run-usable b = rw (run-table b, run-order b) (good-end b .0)
 
   pub run-long : (b : ℕ) → length (ran b .order) ≡ length o
-  run-long b = ap length (run-order b) ∙ good-end b .1 ∙ starts .long
+  run-long b = ap length (run-order b) ∙ good-end b .1 ∙ starts .ready .long
 
   -- so another run can start there
-  pub run-restarts : (b : ℕ) → Startable W (ran b .table) r (ran b .order) g
-  run-restarts b = record { usable = run-usable b; target = starts .target; long = starts .long ∙ sym (run-long b) }
+  pub run-restarts : (b : ℕ) → Startable W number (ran b .table) r (ran b .order) g
+  run-restarts b =
+      record { ready = record { usable = run-usable b; target = starts .ready .target; long = starts .ready .long ∙ sym (run-long b) }; plan = starts .plan }
 
   -- ---- the swap of a state on the way
 
   -- where the order isn't the target, the plan's next pair of levels is in the order
   next-inside : (s : State) → Good W r (length g) s → over.arrived R plan g s ≡ false → over.next R plan g s + 1 < length (s .order)
   unfolding relay
-  next-inside s w e = over.next-inversion R plan g (Good W r (length g)) laws lawful (starts .target) s w e .within
+  next-inside s w e = over.next-inversion R plan g (Good W r (length g)) laws lawful (starts .ready .target) s w e .within
 
   -- each swap that a run makes is Swap's
   pub goes-made : (s : State) → Good W r (length g) s → over.goes R plan g s ≡ true
@@ -206,7 +236,7 @@ module _ (W : OneSwap) (plan : Plan) (lawful : Lawful plan) (t r o g : List ℕ)
   pub run-root-value : (b : ℕ) (inputs : ℕ → Bool) (position : ℕ) → position < rootCount r
       → W .rootValue (ran b .table) r (length o) inputs position ≡ W .rootValue t r (length o) inputs position
   run-root-value b inputs position l =
-      rw (run-table b, ← starts .long) (over.carried R plan g Keeps keeps-stepped b s₀ (good-start, λ inputs position l. refl) .1 inputs position l)
+      rw (run-table b, ← starts .ready .long) (over.carried R plan g Keeps keeps-stepped b s₀ (good-start, λ inputs position l. refl) .1 inputs position l)
 
   -- ---- the numbers
 
@@ -217,7 +247,7 @@ module _ (W : OneSwap) (plan : Plan) (lawful : Lawful plan) (t r o g : List ℕ)
   -- the order is the plan's, after exactly as many swaps as the answer says
   pub run-orders : (b : ℕ) → ran b .order ≡ reached plan g (swapsIn (ran b .answer)) o
   unfolding relay
-  run-orders b = run-order b ∙ over.planned R plan g (Good W r (length g)) laws lawful (starts .target) b s₀ good-start ∙ rw (run-made b)
+  run-orders b = run-order b ∙ over.planned R plan g (Good W r (length g)) laws lawful (starts .ready .target) b s₀ good-start ∙ rw (run-made b)
 
   -- no more swaps than the budget
   pub run-within : (b : ℕ) → swapsIn (ran b .answer) ≤ b
@@ -231,7 +261,7 @@ module _ (W : OneSwap) (plan : Plan) (lawful : Lawful plan) (t r o g : List ℕ)
   -- the fall in left is the number of swaps
   pub run-fall : (b : ℕ) → left (ran b .order) g + swapsIn (ran b .answer) ≡ left o g
   unfolding relay
-  run-fall b = rw (run-order b, run-made b) (over.fall R plan g (Good W r (length g)) laws lawful (starts .target) b s₀ good-start)
+  run-fall b = rw (run-order b, run-made b) (over.fall R plan g (Good W r (length g)) laws lawful (starts .ready .target) b s₀ good-start)
 
   -- ---- each answer, judged on the buffers left
 
@@ -245,7 +275,7 @@ module _ (W : OneSwap) (plan : Plan) (lawful : Lawful plan) (t r o g : List ℕ)
 
   arrived-says : (b : ℕ) → Says (over.arrived R plan g (end b)) (ran b .order ≡ g)
   unfolding relay
-  arrived-says b = rw (run-order b) (over.arrived-says R plan g (Good W r (length g)) laws lawful (starts .target) (end b) (good-end b))
+  arrived-says b = rw (run-order b) (over.arrived-says R plan g (Good W r (length g)) laws lawful (starts .ready .target) (end b) (good-end b))
 
   -- it is done where the order left is the target
   pub run-arrives : (b : ℕ) → ran b .order ≡ g → ran b .answer ≡ Done (swapsIn (ran b .answer)) 0
@@ -326,5 +356,5 @@ module _ (W : OneSwap) (plan : Plan) (lawful : Lawful plan) (t r o g : List ℕ)
   run-enough b m l h e =
       let (j, p, q) = answer-paused _ _ _ m l (sym (run-judged b) ∙ e) in
       let (a, w) = over.meets-only R plan g (end b) way.Clear j in
-      let still = over.enough R plan g (Good W r (length g)) laws lawful (starts .target) b s₀ good-start h in
+      let still = over.enough R plan g (Good W r (length g)) laws lawful (starts .ready .target) b s₀ good-start h in
       clash (over.goes-if R plan g (end b) a (ap isClear (sym w))) still

@@ -1,15 +1,17 @@
 // Run one slice of planned swaps towards a target order.
+ghost use mathlib.Core.List.{[], _∷_};
 ghost use mathlib.Core.Path.{_≡_};
 ghost use Rattle.orders.specs.Arranged.{Arranged};
-ghost use Rattle.plans.specs.BringUp.{bringUp};
+ghost use Rattle.plans.specs.Numbered.{meant, noPlan};
 ghost use Rattle.check_sizes.specs.Sizes.{TableSizes};
-ghost use Rattle.checks.specs.Stages.{verdictOf};
+ghost use Rattle.checks.specs.Stages.{stageAt, verdictOf};
 ghost use Rattle.slices.specs.OneSwap.{plainSwap};
-ghost use Rattle.slices.specs.Run.{badRunSizes, runStages, Stepped, Driven, judgedOn, SliceDone, RunOutcome};
-ghost use Rattle.slices.specs.Theorems.{Startable};
+ghost use Rattle.slices.specs.Run.{badRunSizes, storeStages, runStages, Stepped, Driven, judgedOn, SliceDone, RunOutcome};
+ghost use Rattle.slices.specs.Theorems.{Ready};
 use checks::Refusal;
 use checks::Verdict;
 use orders::Order;
+use plans::Plan;
 use swaps::Lack;
 use swaps::Way;
 
@@ -42,7 +44,7 @@ pub struct Reached {
     pub swaps: usize,
 }
 
-// ---- 1 to 9
+// ---- 1 to 9, and 13
 
 fn bad_run_sizes(table: &[u8], roots: &[u8], order: &[u8], target: &[u8]) -> bool
     ensures { λ b. ⌜ b ≡ badRunSizes (now (table .entry)) (now (roots .entry)) (now (order .entry)) (now (target .entry)) ⌝ }
@@ -50,8 +52,9 @@ fn bad_run_sizes(table: &[u8], roots: &[u8], order: &[u8], target: &[u8]) -> boo
     check_sizes::bad_sizes(table, roots, order) | !(target.len() == order.len())
 }
 
-fn verdict_of_run(table: &[u8], roots: &[u8], order: &[u8], target: &[u8]) -> Verdict
-    ensures { λ v. ⌜ v ≡ verdictOf (runStages plainSwap (now (table .entry)) (now (roots .entry)) (now (order .entry)) (now (target .entry))) ⌝ }
+// Checks 1 to 9.
+pub fn verdict_of_store(table: &[u8], roots: &[u8], order: &[u8], target: &[u8]) -> Verdict
+    ensures { λ v. ⌜ v ≡ verdictOf (storeStages plainSwap (now (table .entry)) (now (roots .entry)) (now (order .entry)) (now (target .entry))) ⌝ }
 {
     if bad_run_sizes(table, roots, order, target) {
         return Verdict::Refused(Refusal {
@@ -76,11 +79,33 @@ fn verdict_of_run(table: &[u8], roots: &[u8], order: &[u8], target: &[u8]) -> Ve
     checks::verdict_of_table(table, roots, order)
 }
 
+// 13: no plan has this number.
+fn verdict_of_plan(plan: usize) -> Verdict
+    ensures { λ v. ⌜ v ≡ verdictOf (stageAt 13 plan (noPlan plan) ∷ []) ⌝ }
+{
+    if plans::no_plan(plan) {
+        return Verdict::Refused(Refusal {
+            number: 13,
+            place: plan,
+        });
+    }
+    Verdict::Clear
+}
+
+fn verdict_of_run(table: &[u8], roots: &[u8], order: &[u8], target: &[u8], plan: usize) -> Verdict
+    ensures { λ v. ⌜ v ≡ verdictOf (runStages plainSwap plan (now (table .entry)) (now (roots .entry)) (now (order .entry)) (now (target .entry))) ⌝ }
+{
+    match verdict_of_store(table, roots, order, target) {
+        Verdict::Refused(refusal) => Verdict::Refused(refusal),
+        Verdict::Clear => verdict_of_plan(plan),
+    }
+}
+
 // ---- one planned swap
 
-fn step(table: &mut [u8], roots: &[u8], order: Order, goal: Order, n: usize) -> Turn
+fn step(table: &mut [u8], roots: &[u8], order: Order, goal: Order, n: usize, plan: Plan) -> Turn
     requires { ⌜ TableSizes (now table) (now roots) × (Arranged order n × Arranged goal n) ⌝ }
-    ensures { λ s. ⌜ Stepped plainSwap bringUp (now (table .entry)) (now (roots .entry)) order goal n s (now (table .exit)) ⌝ }
+    ensures { λ s. ⌜ Stepped plainSwap (meant plan) (now (table .entry)) (now (roots .entry)) order goal n s (now (table .exit)) ⌝ }
 {
     if plans::same(order, goal, n) {
         return Turn {
@@ -88,7 +113,7 @@ fn step(table: &mut [u8], roots: &[u8], order: Order, goal: Order, n: usize) -> 
             order,
         };
     }
-    let level = plans::bring_up(order, goal, n);
+    let level = plans::next_level(plan, order, goal, n);
     match swaps::swap_table(table, roots, order, level) {
         Way::NoRoom(_) => Turn {
             moved: false,
@@ -108,15 +133,16 @@ fn drive(
     start: Order,
     goal: Order,
     n: usize,
+    plan: Plan,
     budget: usize,
 ) -> Reached
     requires { ⌜ TableSizes (now table) (now roots) × (Arranged start n × Arranged goal n) ⌝ }
-    ensures { λ l. ⌜ Driven plainSwap bringUp (now (table .entry)) (now (roots .entry)) start goal n budget l (now (table .exit)) ⌝ }
+    ensures { λ l. ⌜ Driven plainSwap (meant plan) (now (table .entry)) (now (roots .entry)) start goal n budget l (now (table .exit)) ⌝ }
 {
     let mut order = start;
     let mut swaps: usize = 0;
     while swaps < budget {
-        let s = step(table, roots, order, goal, n);
+        let s = step(table, roots, order, goal, n, plan);
         if !s.moved {
             return Reached { order, swaps };
         }
@@ -128,15 +154,23 @@ fn drive(
 
 // ---- the answer, judged on the state left
 
-fn judge(table: &[u8], roots: &[u8], order: Order, goal: Order, n: usize, swaps: usize) -> RunAnswer
+fn judge(
+    table: &[u8],
+    roots: &[u8],
+    order: Order,
+    goal: Order,
+    n: usize,
+    plan: Plan,
+    swaps: usize,
+) -> RunAnswer
     requires { ⌜ TableSizes (now table) (now roots) × (Arranged order n × Arranged goal n) ⌝ }
-    ensures { λ a. ⌜ a ≡ judgedOn plainSwap bringUp (now (table .entry)) (now (roots .entry)) order goal n swaps ⌝ }
+    ensures { λ a. ⌜ a ≡ judgedOn plainSwap (meant plan) (now (table .entry)) (now (roots .entry)) order goal n swaps ⌝ }
 {
     let left = plans::left(order, goal, n);
     if plans::same(order, goal, n) {
         return RunAnswer::Done { swaps, left };
     }
-    let level = plans::bring_up(order, goal, n);
+    let level = plans::next_level(plan, order, goal, n);
     match swaps::ask(table, order, level) {
         Way::NoRoom(lack) => RunAnswer::NoRoom { swaps, left, lack },
         Way::Clear => RunAnswer::Paused { swaps, left },
@@ -151,21 +185,22 @@ fn run_slice(
     roots: &[u8],
     order: &mut [u8],
     target: &[u8],
+    plan: Plan,
     budget: u32,
 ) -> RunAnswer
-    requires { ⌜ Startable plainSwap (now table) (now roots) (now order) (now target) ⌝ }
+    requires { ⌜ Ready plainSwap (now table) (now roots) (now order) (now target) ⌝ }
     ensures { λ a.
-        ⌜ SliceDone plainSwap bringUp (now (table .entry)) (now (roots .entry)) (now (order .entry)) (now (target .entry)) budget a
+        ⌜ SliceDone plainSwap (meant plan) (now (table .entry)) (now (roots .entry)) (now (order .entry)) (now (target .entry)) budget a
         (now (table .exit)) (now (order .exit)) ⌝ }
 {
     let n = order.len();
     let goal = Order::load(target);
     let start = Order::load(order);
-    let reached = drive(table, roots, start, goal, n, budget as usize);
+    let reached = drive(table, roots, start, goal, n, plan, budget as usize);
     let end = reached.order;
     let swaps = reached.swaps;
     end.store(order);
-    judge(table, roots, end, goal, n, swaps)
+    judge(table, roots, end, goal, n, plan, swaps)
 }
 
 pub fn run(
@@ -173,14 +208,16 @@ pub fn run(
     roots: &[u8],
     order: &mut [u8],
     target: &[u8],
+    plan: u32,
     budget: u32,
 ) -> RunAnswer
     ensures { λ a.
-        ⌜ RunOutcome plainSwap bringUp (now (table .entry)) (now (roots .entry)) (now (order .entry)) (now (target .entry)) budget a
+        ⌜ RunOutcome plainSwap plan (now (table .entry)) (now (roots .entry)) (now (order .entry)) (now (target .entry)) budget a
         (now (table .exit)) (now (order .exit)) ⌝ }
 {
-    match verdict_of_run(table, roots, order, target) {
+    let number = plan as usize;
+    match verdict_of_run(table, roots, order, target, number) {
         Verdict::Refused(refusal) => RunAnswer::Refused(refusal),
-        Verdict::Clear => run_slice(table, roots, order, target, budget),
+        Verdict::Clear => run_slice(table, roots, order, target, plans::numbered(number), budget),
     }
 }

@@ -64,7 +64,10 @@ module _ (t r o g : List ℕ) {f : Files} {a b c d : ℕ} (e : f ≡ Read a b c 
     order = omega (arith, filled .order-in, length-take-le c o (filled .order-in));
   }
 
+pub read-within : {f : File} {n : ℕ} (l : List ℕ) → f ≡ Bytes n → Within f l → n ≤ length l
+read-within l e w = rw e at w
+
 pub counted : (n : ℕ) (l : List ℕ) → n ≤ length l → n ≡ length (take n l)
 counted n l h = sym (length-take-le n l h)
 
-pub ruleset filling = (table-within, roots-within, order-within, target-within, held, counted, needs)
+pub ruleset filling = (table-within, roots-within, order-within, target-within, read-within, held, counted, needs)

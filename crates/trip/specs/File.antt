@@ -1,4 +1,4 @@
--- The buffers of the files, and what came of reading a file and all of them.
+-- The buffers of the files, and what came of reading a file and those of the store and its target.
 use Prim.Native.Nat.{ℕ, _+_, _*_, _≤_}
 use mathlib.Core.List.{List}
 use mathlib.Core.Path.{_≡_}
@@ -10,7 +10,7 @@ use Rattle.trip.specs.declared.File.the-variants.{Bytes, Unreadable}
 use Rattle.trip.specs.declared.Files.{Files}
 use Rattle.trip.specs.declared.Files.the-variants.{Read}
 
--- each buffer has one byte more than its file may have: a file over its limit fills it, and by its length alone is refusal 1
+-- the buffers of the store and its target have one byte more than each file may have: a file over its limit fills it, and by its length alone is refusal 1
 pub record Buffers (t r o g : List ℕ) : Type 0 where
   pub table : length t ≡ recordSize * mostRecords + 1
   pub roots : length r ≡ rootSize * mostRoots + 1

@@ -1,4 +1,6 @@
 // Reads a store from the files of the working folder, brings it to its target and prints what came of it. It writes to no file.
+ghost use Prim.Native.Nat.{_≤_};
+ghost use lib.ListN.{length};
 ghost use Rattle.program.specs.Program.{Held};
 ghost use Rattle.trip.specs.File.{Buffers, Within, AllWithin};
 use diagrams::MOST_RECORDS;
@@ -34,14 +36,15 @@ fn read_whole(fd: i32, path: &[u8], buffer: &mut [u8]) -> File
     File::Bytes(done)
 }
 
-// A missing file counts as empty.
-fn load(path: &[u8], buffer: &mut [u8]) -> File
+// A missing file counts as the first `missing` bytes of the buffer, as it was lent.
+fn load(path: &[u8], buffer: &mut [u8], missing: usize) -> File
+    requires { ⌜ missing ≤ length (now buffer) ⌝ }
     ensures { λ f. ⌜ Within f (now (buffer .exit)) ⌝ }
 {
     let fd = os::open_read(path);
     if fd < 0 {
         if os::errno() == libc::ENOENT {
-            return File::Bytes(0);
+            return File::Bytes(missing);
         }
         os::fail(path);
         return File::Unreadable;
@@ -62,20 +65,21 @@ enum Files {
     Unreadable,
 }
 
+// The store and its target. A missing file counts as empty.
 fn load_all(table: &mut [u8], roots: &mut [u8], order: &mut [u8], target: &mut [u8]) -> Files
     requires { ⌜ Buffers (now table) (now roots) (now order) (now target) ⌝ }
     ensures { λ f. ⌜ AllWithin f (now (table .exit)) (now (roots .exit)) (now (order .exit)) (now (target .exit)) ⌝ }
 {
-    let File::Bytes(table_bytes) = load(b"trip.nod", table) else {
+    let File::Bytes(table_bytes) = load(b"trip.nod", table, 0) else {
         return Files::Unreadable;
     };
-    let File::Bytes(root_bytes) = load(b"trip.rts", roots) else {
+    let File::Bytes(root_bytes) = load(b"trip.rts", roots, 0) else {
         return Files::Unreadable;
     };
-    let File::Bytes(order_bytes) = load(b"trip.ord", order) else {
+    let File::Bytes(order_bytes) = load(b"trip.ord", order, 0) else {
         return Files::Unreadable;
     };
-    let File::Bytes(target_bytes) = load(b"trip.tgt", target) else {
+    let File::Bytes(target_bytes) = load(b"trip.tgt", target, 0) else {
         return Files::Unreadable;
     };
     Files::Read {
@@ -87,17 +91,17 @@ fn load_all(table: &mut [u8], roots: &mut [u8], order: &mut [u8], target: &mut [
 }
 
 // Writes the text of the program at once.
-fn print(table: &mut [u8], roots: &[u8], order: &mut [u8], target: &[u8])
+fn print(table: &mut [u8], roots: &[u8], order: &mut [u8], target: &[u8], plan: &[u8])
     requires { ⌜ Held (now table) (now roots) (now order) ⌝ }
 {
     let mut text = [0u8; program::MOST_TEXT];
-    let n = program::text(table, roots, order, target, &mut text);
+    let n = program::text(table, roots, order, target, plan, &mut text);
     if !io::write_all(STDOUT_FILENO, &text[..n]) {
         os::fail(b"standard output");
     }
 }
 
-// Each buffer has one byte more than its file may have, so that check 1 refuses a file over its limit.
+// Each buffer has one byte more than its file may have, so that a file over its limit is refused by its length.
 fn main() {
     let mut table = [0u8; RECORD_SIZE * MOST_RECORDS + 1];
     let mut roots = [0u8; ROOT_SIZE * MOST_ROOTS + 1];
@@ -112,5 +116,16 @@ fn main() {
     else {
         return;
     };
-    print(&mut table[..t], &roots[..r], &mut order[..n], &target[..m]);
+    // A missing trip.pln counts as one byte: 0, for Bring Up.
+    let mut plan = [0u8; 2];
+    let File::Bytes(p) = load(b"trip.pln", &mut plan, 1) else {
+        return;
+    };
+    print(
+        &mut table[..t],
+        &roots[..r],
+        &mut order[..n],
+        &target[..m],
+        &plan[..p],
+    );
 }

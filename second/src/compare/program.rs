@@ -3,30 +3,32 @@
 use std::env;
 use std::fs;
 use std::path::{Path, PathBuf};
-use std::process::{self, Command};
+use std::process;
 
 use super::random_questions;
-use crate::by_hand::{A_0, A_1, FREE};
 use crate::generate::{accepted, busy, random_order};
 use crate::hold::groups;
 use crate::input::Input;
 use crate::layout::{RECORD_BYTES, ROOT_BYTES};
+use crate::machine::command;
+use crate::plans::PLANS;
 use crate::printed::{printed, Files, NAMES};
 use crate::random::Random;
 use crate::sample::sample;
 use crate::tally::Tally;
+use crate::texts;
 
 pub const QUESTIONS: u64 = 2_000;
 const FIRST_SEED: u64 = 20_700_000;
 /// The most bytes that each of the files may have.
-const LIMITS: [usize; 4] = [32_768, 128, 32, 32];
+const LIMITS: [usize; 5] = [32_768, 128, 32, 32, 1];
 
 /// Holds the program to the cases made by hand; how many there are, or the
 /// first report.
 pub fn hold_program_to_cases(program: &Path) -> Result<usize, String> {
     let program = whole_path(program)?;
     let folder = Folder::new()?;
-    let cases = by_hand();
+    let cases = texts::cases();
     for (files, text) in &cases {
         hold_program_to(&program, &folder, files, text)?;
     }
@@ -41,14 +43,23 @@ pub fn compare(program: &Path, count: u64) -> Result<Tally, String> {
         .line("no room", 100)
         .line("no room after some swaps", 20)
         .refusals(&[1], 100)
-        .refusals(&[2, 3, 4, 5, 6, 7, 8, 9], 10);
+        .refusals(&[2, 3, 4, 5, 6, 7, 8, 9], 10)
+        .refusals(&[13], 100)
+        .line("refused 1 to 9, with a bad plan besides", 20);
+    let tally = (0..PLANS.len()).fold(tally, |tally, number| {
+        tally.line(&format!("plan {number}"), 100)
+    });
     let tally = NAMES.into_iter().fold(tally, |tally, name| {
         tally
             .line(&format!("{name} missing"), 20)
             .line(&format!("{name} empty"), 20)
             .line(&format!("{name} over its limit"), 20)
     });
-    let tally = tally.line("trip.rts odd", 20);
+    let tally = tally
+        .line("trip.rts odd", 20)
+        .line("trip.pln with no plan's byte", 20)
+        .line("trip.pln of two bytes", 20)
+        .line("trip.pln of thousands of bytes", 20);
     random_questions(tally, FIRST_SEED, count, |random, tally| {
         one(&program, &folder, random, tally)
     })
@@ -70,10 +81,30 @@ fn one(
     let text = printed(&files);
     hold_program_to(program, folder, &files, &text)?;
     tally.call();
-    tally.count(&first_words(&text));
-    let stuck_later = text.starts_with("no room") && !text.starts_with("no room swaps 0 ");
+    count_text(&text, tally);
+    count_files(&files, tally);
+    let bad_plan = !matches!(files[4].as_deref(), None | Some([0..=3]));
+    let lower = text.starts_with("refused ") && !text.starts_with("refused 13 ");
+    tally.count_if(bad_plan && lower, "refused 1 to 9, with a bad plan besides");
+    Ok(())
+}
+
+/// Counts the plan's line, where there is one, and the answer.
+fn count_text(text: &str, tally: &mut Tally) {
+    let answer = match text.split_once('\n') {
+        Some((plan, rest)) if plan.starts_with("plan ") => {
+            tally.count(plan);
+            rest
+        }
+        _ => text,
+    };
+    tally.count(&first_words(answer));
+    let stuck_later = answer.starts_with("no room") && !answer.starts_with("no room swaps 0 ");
     tally.count_if(stuck_later, "no room after some swaps");
-    for ((name, file), limit) in NAMES.iter().zip(&files).zip(LIMITS) {
+}
+
+fn count_files(files: &Files, tally: &mut Tally) {
+    for ((name, file), limit) in NAMES.iter().zip(files).zip(LIMITS) {
         match file {
             None => tally.count(&format!("{name} missing")),
             Some(bytes) => {
@@ -84,12 +115,18 @@ fn one(
     }
     let odd = files[1].as_ref().is_some_and(|roots| roots.len() % 2 == 1);
     tally.count_if(odd, "trip.rts odd");
-    Ok(())
+    match files[4].as_deref() {
+        Some([4..=255]) => tally.count("trip.pln with no plan's byte"),
+        Some([_, _]) => tally.count("trip.pln of two bytes"),
+        Some(many) if many.len() >= 1_000 => tally.count("trip.pln of thousands of bytes"),
+        _ => {}
+    }
 }
 
-/// What the tally calls the text: "done", "no room" or "refused" and a number.
-fn first_words(text: &str) -> String {
-    let words: Vec<&str> = text.split_whitespace().collect();
+/// What the tally calls the answer: "done", "no room" or "refused" and a
+/// number.
+fn first_words(answer: &str) -> String {
+    let words: Vec<&str> = answer.split_whitespace().collect();
     match words[0] {
         "done" => "done".to_string(),
         _ => words[..2].join(" "),
@@ -106,7 +143,7 @@ fn hold_program_to(
     text: &str,
 ) -> Result<(), String> {
     folder.fill(files)?;
-    let output = Command::new(program)
+    let output = command(program)
         .current_dir(&folder.path)
         .output()
         .map_err(|error| format!("{} does not run: {error}", program.display()))?;
@@ -127,7 +164,7 @@ fn hold_program_to(
 }
 
 fn hex(files: &Files) -> String {
-    let sizes = [RECORD_BYTES, ROOT_BYTES, 1, 1];
+    let sizes = [RECORD_BYTES, ROOT_BYTES, 1, 1, 1];
     let mut text = String::new();
     for ((name, file), size) in NAMES.iter().zip(files).zip(sizes) {
         text += &match file {
@@ -193,7 +230,9 @@ fn random_files(random: &mut Random) -> Files {
         _ => sample(random).input,
     };
     let target = random_target(&input, random);
-    let mut files = [input.table, input.roots, input.order, target].map(Some);
+    let plan = random_plan(random);
+    let [table, roots, order, target] = [input.table, input.roots, input.order, target].map(Some);
+    let mut files = [table, roots, order, target, plan];
     if random.once_in(3) {
         let place = random.below(files.len());
         damage(&mut files[place], LIMITS[place], random);
@@ -218,6 +257,20 @@ fn random_target(input: &Input, random: &mut Random) -> Vec<u8> {
     target
 }
 
+/// Mostly one byte, a plan's; otherwise missing, another byte, or another
+/// number of them.
+fn random_plan(random: &mut Random) -> Option<Vec<u8>> {
+    let plan = random.below(PLANS.len()) as u8;
+    match random.below(30) {
+        0 | 1 => None,
+        2 => Some(Vec::new()),
+        3 => Some(vec![random.between(PLANS.len(), 255) as u8]),
+        4 => Some(vec![plan; 2]),
+        5 => Some(vec![plan; random.between(1_000, 5_000)]),
+        _ => Some(vec![plan]),
+    }
+}
+
 /// A file that is missing, empty, over its limit or cut short.
 fn damage(file: &mut Option<Vec<u8>>, limit: usize, random: &mut Random) {
     let bytes = file.get_or_insert_default();
@@ -227,112 +280,5 @@ fn damage(file: &mut Option<Vec<u8>>, limit: usize, random: &mut Random) {
         2 => bytes.resize(limit + random.between(1, 8), 0),
         3 => bytes.resize(limit * random.between(2, 5), 0),
         _ => bytes.truncate(bytes.len() / 2),
-    }
-}
-
-/// Files and the whole output for them, written out by hand.
-fn by_hand() -> Vec<(Files, String)> {
-    bench_sheet()
-        .into_iter()
-        .map(|(files, text)| (files, text.to_string()))
-        .chain(at_the_limits())
-        .collect()
-}
-
-fn files(table: &[u8], roots: &[u8], order: &[u8], target: &[u8]) -> Files {
-    [table, roots, order, target].map(|bytes| Some(bytes.to_vec()))
-}
-
-/// A, B, C and G of the bench sheet, A spoilt, and files that are missing.
-fn bench_sheet() -> Vec<(Files, &'static str)> {
-    let a = [A_0, A_1, FREE].concat();
-    let none = [None, None, None, None];
-    let only_orders = [None, None, Some(vec![0, 1, 2]), Some(vec![2, 1, 0])];
-    vec![
-        (
-            files(&a, &[3, 0], &[0, 1], &[1, 0]),
-            "done swaps 1 left 0\norder 1 0\n0 free\n1 1 0 4\n2 0 0 1\nroots 3\n",
-        ),
-        (
-            files(&a, &[3, 0], &[0, 1], &[0, 1]),
-            "done swaps 0 left 0\norder 0 1\n0 1 0 1\n1 0 0 2\n2 free\nroots 3\n",
-        ),
-        (
-            files(&a[..16], &[3, 0], &[0, 1], &[1, 0]),
-            "no room swaps 0 left 1 level 0 needed 1 free 0\n\
-             order 0 1\n0 1 0 1\n1 0 0 2\nroots 3\n",
-        ),
-        (
-            files(&a, &[3, 0, 2, 0], &[0, 1], &[1, 0]),
-            "done swaps 1 left 0\norder 1 0\n0 1 0 1\n1 1 0 4\n2 0 0 1\nroots 3 2\n",
-        ),
-        (only_orders, "done swaps 3 left 0\norder 2 1 0\nroots\n"),
-        (none, "refused 1 place 0\n"),
-        (files(&a, &[3], &[0, 1], &[1, 0]), "refused 1 place 0\n"),
-        (files(&a, &[3, 0], &[0, 1], &[1, 1]), "refused 3 place 1\n"),
-        (files(&a, &[], &[0, 1], &[1, 0]), "refused 9 place 1\n"),
-    ]
-}
-
-/// Each file as long as it may be, and then with something more, without
-/// which it would be right.
-fn at_the_limits() -> Vec<(Files, String)> {
-    let table = FREE.repeat(4_096);
-    let roots = [1, 0].repeat(64);
-    let order: Vec<u8> = (0..32).collect();
-    let with = |bytes: &[u8], more: &[u8]| [bytes, more].concat();
-
-    let mut whole = String::from("done swaps 0 left 0\norder");
-    for variable in 0..32 {
-        whole += &format!(" {variable}");
-    }
-    whole += "\n";
-    for number in 0..4_096 {
-        whole += &format!("{number} free\n");
-    }
-    whole += "roots";
-    whole += &" 1".repeat(64);
-    whole += "\n";
-
-    let refused = "refused 1 place 0\n".to_string();
-    vec![
-        (files(&table, &roots, &order, &order), whole),
-        (
-            files(&with(&table, &FREE), &roots, &order, &order),
-            refused.clone(),
-        ),
-        (
-            files(&with(&table, &[255]), &roots, &order, &order),
-            refused.clone(),
-        ),
-        (
-            files(&table, &with(&roots, &[1, 0]), &order, &order),
-            refused.clone(),
-        ),
-        (
-            files(&table, &roots, &with(&order, &[0]), &order),
-            refused.clone(),
-        ),
-        (
-            files(&table, &roots, &order, &with(&order, &[0])),
-            refused.clone(),
-        ),
-        (
-            files(&table, &roots, &with(&order, &[32]), &with(&order, &[32])),
-            refused,
-        ),
-    ]
-}
-
-#[cfg(test)]
-mod tests {
-    use super::by_hand;
-    use crate::printed::printed;
-
-    #[test]
-    fn the_model_prints_the_text_made_by_hand() {
-        for (files, text) in by_hand() {
-            assert_eq!(printed(&files), text);
-        }
     }
 }

@@ -1,13 +1,14 @@
-//! Run, whole and cut into slices, with good and bad targets and with budgets
-//! of every size.
+//! Run, whole and cut into slices, by every plan, with good and bad targets and
+//! with budgets of every size.
 
-use super::{compared, name, random_questions, FEWEST_OF_EACH_ANSWER};
+use super::{compared, name, past, random_questions, FEWEST_OF_EACH_ANSWER};
 use crate::generate::{big, busy, random_order, roomy};
 use crate::hold::hex;
 use crate::input::Input;
 use crate::kept::{no_room_keeps, run_keeps};
 use crate::layout::MOST_RECORDS;
 use crate::model::{answer, Answer, Question};
+use crate::plans::{plan, Plan, PLANS};
 use crate::random::Random;
 use crate::sample::sample;
 use crate::tally::Tally;
@@ -15,6 +16,7 @@ use crate::tally::Tally;
 pub const QUESTIONS: u64 = 24_000;
 const FIRST_SEED: u64 = 20_600_000;
 const FEWEST: usize = 1_000;
+const FEWEST_OF_EACH_PLAN: usize = 3_000;
 /// A run is cut into so many slices at most.
 const MOST_SLICES: usize = 6;
 
@@ -30,9 +32,29 @@ pub fn compare(count: u64) -> Result<Tally, String> {
         .line("no room with the budget just spent", FEWEST_OF_EACH_ANSWER)
         .line("no room with budget 0", FEWEST_OF_EACH_ANSWER)
         .line("not refused, with 4,096 records", 20)
-        .refusals(&[1, 2, 3, 4, 5, 6, 7, 8, 9], FEWEST_OF_EACH_ANSWER)
+        .refusals(&[1, 2, 3, 4, 5, 6, 7, 8, 9, 13], FEWEST_OF_EACH_ANSWER)
+        .line(LOWER_REFUSAL, FEWEST_OF_EACH_ANSWER)
         .line("swaps in all", 50_000);
+    let tally = PLANS.iter().fold(tally, |tally, plan| {
+        let of_plan = |what| of_plan(plan, what);
+        tally
+            .line(&of_plan("not refused"), FEWEST_OF_EACH_PLAN)
+            .line(&of_plan("done"), FEWEST_OF_EACH_ANSWER)
+            .line(&of_plan("paused"), FEWEST_OF_EACH_ANSWER)
+            .line(&of_plan("no room"), FEWEST_OF_EACH_ANSWER)
+            .line(&of_plan(ITS_OWN), FEWEST_OF_EACH_ANSWER)
+    });
     random_questions(tally, FIRST_SEED, count, one)
+}
+
+const LOWER_REFUSAL: &str = "refused 1 to 9, with no such plan besides";
+
+/// No other plan would swap first what this one does.
+const ITS_OWN: &str = "a first pair of its own";
+
+/// The name of a plan's line in the tally.
+fn of_plan(plan: &Plan, what: &str) -> String {
+    format!("{}: {what}", plan.name)
 }
 
 fn one(random: &mut Random, tally: &mut Tally) -> Result<(), String> {
@@ -42,42 +64,56 @@ fn one(random: &mut Random, tally: &mut Tally) -> Result<(), String> {
         660..=663 => big(random),
         _ => sample(random).input,
     };
-    let target = random_target(&before.order, random);
-    let budget = random_budget(&before, &target, random);
-    let whole = Whole {
+    let job = Job {
+        target: random_target(&before.order, random),
+        plan: random_plan(random),
         before,
-        target,
-        budget,
     };
-    let mut after = whole.before.clone();
-    let answer = compared(&mut after, &whole.question(budget), random)?;
+    let budget = random_budget(&job, random);
+    let mut after = job.before.clone();
+    let answer = compared(&mut after, &job.slice(budget), random)?;
     tally.call();
-    count(&whole, answer, tally);
-    if let Answer::Refused(_) = answer {
+    tally.count(&name(answer));
+    if let Answer::Refused(refusal) = answer {
+        let besides = refusal.number != 13 && plan(job.plan).is_none();
+        tally.count_if(besides, LOWER_REFUSAL);
         return Ok(());
     }
-    let swaps = swaps(answer);
-    run_keeps(&whole.before, &whole.target, swaps, &after, random)?;
-    if let Answer::Stuck { lack, .. } = answer {
-        no_room_keeps(&after, lack, random)?;
-    }
-    in_slices(&whole, answer, &after, random)
+    let plan = plan(job.plan).expect("no other number is a plan's");
+    count(&job, plan, budget, answer, tally);
+    keeps(&job, plan, answer, &after, random)?;
+    in_slices(&job, budget, answer, &after, random)
 }
 
-/// A run that is not cut.
-struct Whole {
+/// What is run whole, and then in slices, all of them by one plan.
+struct Job {
     before: Input,
     target: Vec<u8>,
-    budget: u32,
+    plan: u32,
 }
 
-impl Whole {
-    /// A slice of it.
-    fn question(&self, budget: u32) -> Question {
+impl Job {
+    fn slice(&self, budget: u32) -> Question {
         Question::Run {
             target: self.target.clone(),
+            plan: self.plan,
             budget,
         }
+    }
+}
+
+fn keeps(
+    job: &Job,
+    plan: &Plan,
+    answer: Answer,
+    after: &Input,
+    random: &mut Random,
+) -> Result<(), String> {
+    let swaps = swaps(answer);
+    run_keeps(&job.before, &job.target, plan, swaps, after, random)?;
+    match answer {
+        Answer::Stuck { lack, .. } => no_room_keeps(after, lack, random),
+        _ => Ok(()),
     }
 }
 
@@ -85,17 +121,18 @@ impl Whole {
 /// else, and the buffers are the same in the end. The library is held to the
 /// model in every slice, so what is shown of the one holds for the other.
 fn in_slices(
-    whole: &Whole,
+    job: &Job,
+    budget: u32,
     answer: Answer,
     after: &Input,
     random: &mut Random,
 ) -> Result<(), String> {
-    let slices = cut(whole.budget, random);
-    let mut state = whole.before.clone();
+    let slices = cut(budget, random);
+    let mut state = job.before.clone();
     let mut made = 0;
     let mut last = answer;
     for &budget in &slices {
-        last = compared(&mut state, &whole.question(budget), random)
+        last = compared(&mut state, &job.slice(budget), random)
             .map_err(|report| format!("in slices {slices:?}\n{report}"))?;
         made += swaps(last);
     }
@@ -143,12 +180,11 @@ fn with_swaps(answer: Answer, swaps: u32) -> Answer {
     }
 }
 
-fn count(whole: &Whole, answer: Answer, tally: &mut Tally) {
-    tally.count(&name(answer));
-    if let Answer::Refused(_) = answer {
-        return;
-    }
-    let budget = whole.budget;
+/// Counts a run that is not refused.
+fn count(job: &Job, plan: &Plan, budget: u32, answer: Answer, tally: &mut Tally) {
+    tally.count(&of_plan(plan, "not refused"));
+    tally.count(&of_plan(plan, &name(answer)));
+    tally.count_if(has_its_own(job, plan), &of_plan(plan, ITS_OWN));
     let swaps = swaps(answer);
     for _ in 0..swaps {
         tally.count("swaps in all");
@@ -166,8 +202,14 @@ fn count(whole: &Whole, answer: Answer, tally: &mut Tally) {
             tally.count_if(budget == 0, "no room with budget 0");
         }
     }
-    let full = whole.before.store().record_count() == MOST_RECORDS;
+    let full = job.before.store().record_count() == MOST_RECORDS;
     tally.count_if(full, "not refused, with 4,096 records");
+}
+
+fn has_its_own(job: &Job, plan: &Plan) -> bool {
+    let first = |plan: &Plan| (plan.next)(&job.before.order, &job.target);
+    let alike = PLANS.iter().filter(|other| first(other) == first(plan));
+    alike.count() == 1
 }
 
 /// Mostly a permutation: the order itself, near to it, its reverse or any
@@ -215,14 +257,21 @@ fn spoil(list: &mut [u8], random: &mut Random) {
     list[random.below(n)] = byte;
 }
 
+/// Mostly a plan's number; now and then one that is none's, near, far, or
+/// seeming a plan's to a reader of its last bits alone.
+fn random_plan(random: &mut Random) -> u32 {
+    match random.below(48) {
+        0 => past(PLANS.len(), random),
+        1 => [5, 255, 256, 257, 1 << 16, 1 << 31][random.below(6)],
+        2 => random.between(PLANS.len(), u32::MAX as usize) as u32,
+        _ => random.below(PLANS.len()) as u32,
+    }
+}
+
 /// 0, small, huge, or near the number of swaps that the run can make before it
 /// is done or without room.
-fn random_budget(before: &Input, target: &[u8], random: &mut Random) -> u32 {
-    let largest = Question::Run {
-        target: target.to_vec(),
-        budget: u32::MAX,
-    };
-    let enough = match answer(&mut before.clone(), &largest) {
+fn random_budget(job: &Job, random: &mut Random) -> u32 {
+    let enough = match answer(&mut job.before.clone(), &job.slice(u32::MAX)) {
         Answer::Refused(_) => 3,
         other => swaps(other),
     };

@@ -1,7 +1,6 @@
 use borrow.Author.Needs.{needs}
-use Rattle.texts.specs.Put.{putting}
+use Rattle.texts.specs.Put.{putting, put-printed}
 use Rattle.program.specs.Text.{printed}
-use Rattle.texts.specs.Put.{put-printed}
 use Rattle.program.proofs.print.Statement.{statement}
 use Rattle.program.proofs.print.Tie as tie
 
@@ -11,7 +10,6 @@ print-spec =
     tie.close
     (tie.spec
     (λ c κs. search putting)
-    (λ c. search needs)
     (λ c κs. search putting)
     (λ c κs. search putting)
     (λ c. search needs)

@@ -8,6 +8,7 @@ text-spec =
     tie.close
     (tie.spec
     (λ c κs. search needs)
+    (λ c κs. search needs)
     (λ c κs. search printing)
     (λ c. search needs)
     (λ c. search needs)

@@ -1,6 +1,5 @@
 use borrow.Author.Needs.{needs}
-use Rattle.plans.specs.BringUp.{bring-up-lawful}
-use Rattle.slices.proofs.Laws.{run-startable, run-refused, run-sliced}
+use Rattle.slices.proofs.Laws.{run-ready, run-refused, run-sliced}
 use Rattle.slices.proofs.run.Statement.{statement}
 use Rattle.slices.proofs.run.Tie as tie
 
@@ -11,10 +10,11 @@ run-spec =
     (λ c κs. search needs)
     (λ c. search needs)
     (λ c. search needs)
-    (λ c κs. run-startable _ _ _ _ (c .before .before .before .before .verdict-of-run .ensures) (c .before .before .enum-told .given .1))
+    (λ c κs. search needs)
+    (λ c κs. run-ready _ _ _ _ _ (c .before .before .before .before .before .verdict-of-run .ensures) (c .before .before .before .enum-told .given .1))
     (λ c. search needs)
     (λ c. search needs)
-    (λ c. search (run-refused, bring-up-lawful))
+    (λ c. search run-refused)
     (λ c. search needs)
     (λ c. search needs)
-    (λ c. search (run-sliced, bring-up-lawful)))
+    (λ c. search run-sliced))

@@ -1,4 +1,3 @@
-use Rattle.plans.specs.BringUp.{bring-up-lawful}
 use Rattle.slices.proofs.Laws.{starting, slice-done, still-sized}
 use Rattle.slices.proofs.run_slice.Statement.{statement}
 use Rattle.slices.proofs.run_slice.Tie as tie
@@ -14,4 +13,4 @@ run-slice-spec =
     (λ c κs. search (still-sized, starting))
     (λ c. search starting)
     (λ c. search starting)
-    (λ c. search (slice-done, bring-up-lawful)))
+    (λ c. search slice-done))

@@ -1,8 +1,6 @@
-use Rattle.lists.specs.First.{passed-all}
-use native.Mathlib.Omega.{arith}
 use borrow.Author.Needs.{needs}
+use Rattle.checks.specs.Stages.{row-refuses, row-passes}
 use Rattle.slices.specs.Run.{runStages}
-use Rattle.slices.proofs.Laws.{sizes-right, refusing}
 use Rattle.slices.proofs.verdict_of_run.Statement.{statement}
 use Rattle.slices.proofs.verdict_of_run.Tie as tie
 
@@ -12,13 +10,8 @@ verdict-of-run-spec =
     tie.close
     (tie.spec
     (λ c κs. search needs)
-    (λ c. search refusing depth 12)
+    (λ c. search needs)
+    (λ c. search needs)
     (λ c κs. search needs)
-    (λ c. search refusing depth 12)
-    (λ c κs. search needs)
-    (λ c. search refusing depth 12)
-    (λ c κs.
-    let d = c .before .before .before in
-    let sizes = sizes-right _ _ _ _ (d .before .before .bad-run-sizes .ensures) (d .before .if1 .left) in
-    (sizes, passed-all _ _ (d .first-bad-place .ensures) (omega arith)))
-    (λ c. search refusing depth 12))
+    (λ c. search row-refuses)
+    (λ c. search row-passes))

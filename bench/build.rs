@@ -1,6 +1,5 @@
 //! Links the static library `relay`, from the folder RELAY_LIB_DIR or else
-//! from ../target/staticlib. A relative folder is taken from the folder of the
-//! program that is built: second/ or bench/.
+//! from ../target/staticlib. A relative folder is taken from bench/.
 
 use std::env;
 use std::path::Path;

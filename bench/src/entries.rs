@@ -1,4 +1,4 @@
-//! The library's entries, as `include/relay.h` declares them.
+//! The entries that are timed, as `include/relay.h` declares them.
 
 extern "C" {
     pub fn relay_check(
@@ -8,32 +8,6 @@ extern "C" {
         roots_length: usize,
         order: *const u8,
         order_length: usize,
-        answer: *mut u32,
-        answer_length: usize,
-    ) -> usize;
-
-    pub fn relay_read(
-        table: *const u8,
-        table_length: usize,
-        roots: *const u8,
-        roots_length: usize,
-        order: *const u8,
-        order_length: usize,
-        position: u32,
-        inputs: *const u8,
-        inputs_length: usize,
-        answer: *mut u32,
-        answer_length: usize,
-    ) -> usize;
-
-    pub fn relay_show(
-        table: *const u8,
-        table_length: usize,
-        roots: *const u8,
-        roots_length: usize,
-        order: *const u8,
-        order_length: usize,
-        position: u32,
         answer: *mut u32,
         answer_length: usize,
     ) -> usize;
@@ -59,6 +33,7 @@ extern "C" {
         order_length: usize,
         target: *const u8,
         target_length: usize,
+        plan: u32,
         budget: u32,
         answer: *mut u32,
         answer_length: usize,

@@ -1,0 +1,179 @@
+//! Times of the library beside those of an ordinary Rust program, and of BuDDy
+//! where the variable BUDDY names the program made of buddy.c.
+//!
+//! Both sides take turns on the same tables; of each the least time is shown.
+
+use std::env;
+use std::hint::black_box;
+use std::process::ExitCode;
+use std::time::Instant;
+
+use crate::buddy;
+use crate::generate::{self, Buffers, Case, PLAN, RECORDS};
+use crate::library;
+use crate::ordinary::{self, Answer, Plan};
+
+pub fn print(repetitions: usize) -> ExitCode {
+    for (seed, inputs) in [(1, 8), (2, 13)] {
+        let case = generate::full(seed, inputs);
+        println!(
+            "{}: {} of {RECORDS} records used, order reversed in {} swaps",
+            case.name,
+            case.before.used(),
+            case.swaps
+        );
+        let states = states(&case);
+        agree(&case, &states);
+        let times = measure(&case, &states, repetitions);
+        times.print();
+        if let Some(program) = env::var_os("BUDDY") {
+            match buddy::microseconds(&program, &case, repetitions) {
+                Ok(time) => {
+                    let time = time / f64::from(case.swaps);
+                    row("swap, against BuDDy", [times.within[0], time]);
+                }
+                Err(reason) => {
+                    eprintln!("BuDDy: {reason}");
+                    return ExitCode::FAILURE;
+                }
+            }
+        }
+        println!();
+    }
+    println!(
+        "Microseconds, the least of {repetitions}; left the library, right the other program."
+    );
+    ExitCode::SUCCESS
+}
+
+/// Both sides give the same answers and leave the same buffers.
+fn agree(case: &Case, states: &[State]) {
+    let mut answer = [0; 6];
+    let same = |count: usize, answer: &[u32; 6], expected: Answer| {
+        assert_eq!(answer[..count], expected.numbers(), "the answers differ");
+    };
+
+    let count = library::check(&case.before, &mut answer);
+    same(count, &answer, ordinary::check(&case.before));
+
+    for state in states {
+        let (mut ours, mut theirs) = (state.buffers.clone(), state.buffers.clone());
+        let count = library::swap(&mut ours, state.level as u32, &mut answer);
+        same(count, &answer, ordinary::swap(&mut theirs, state.level));
+        assert!(ours == theirs, "the buffers differ after a swap");
+    }
+
+    for plan in Plan::ALL {
+        let (mut ours, mut theirs) = (case.before.clone(), case.before.clone());
+        let count = library::run(&mut ours, &case.target, plan, u32::MAX, &mut answer);
+        let expected = ordinary::run(&mut theirs, &case.target, plan, u32::MAX);
+        same(count, &answer, expected);
+        assert!(ours == theirs, "the buffers differ after a run by {plan:?}");
+    }
+}
+
+/// The buffers before some swap of the run, and its upper level.
+struct State {
+    buffers: Buffers,
+    level: usize,
+}
+
+/// One swap in 31 of the run, from the first on.
+fn states(case: &Case) -> Vec<State> {
+    let mut states = Vec::new();
+    let mut buffers = case.before.clone();
+    while let Some(level) = PLAN.next(&buffers.order, &case.target) {
+        states.push(State {
+            buffers: buffers.clone(),
+            level,
+        });
+        ordinary::run(&mut buffers, &case.target, PLAN, 31);
+    }
+    states
+}
+
+/// Least times in microseconds, of the library and of the ordinary program.
+struct Times {
+    check: [f64; 2],
+    /// The mean of one swap in 31, each by a call of its own.
+    swap: [f64; 2],
+    /// The mean swap of the run: its time without that of its check.
+    within: [f64; 2],
+    /// All swaps by one call.
+    run: [f64; 2],
+}
+
+fn measure(case: &Case, states: &[State], repetitions: usize) -> Times {
+    let none = [f64::INFINITY; 2];
+    let mut check = none;
+    let mut swaps = vec![none; states.len()];
+    let mut run = none;
+    let mut answer = [0; 6];
+    for _ in 0..repetitions {
+        let [ours, theirs] = &mut check;
+        least(ours, || {
+            library::check(black_box(&case.before), &mut answer)
+        });
+        least(theirs, || ordinary::check(black_box(&case.before)));
+
+        for (state, [ours, theirs]) in states.iter().zip(&mut swaps) {
+            let mut buffers = state.buffers.clone();
+            least(ours, || {
+                library::swap(&mut buffers, state.level as u32, &mut answer)
+            });
+            let mut buffers = state.buffers.clone();
+            least(theirs, || ordinary::swap(&mut buffers, state.level));
+            black_box(&buffers);
+        }
+
+        let [ours, theirs] = &mut run;
+        let mut buffers = case.before.clone();
+        least(ours, || {
+            library::run(&mut buffers, &case.target, PLAN, u32::MAX, &mut answer)
+        });
+        let mut buffers = case.before.clone();
+        least(theirs, || {
+            ordinary::run(&mut buffers, &case.target, PLAN, u32::MAX)
+        });
+        black_box(&buffers);
+    }
+    let mean = |side: usize| {
+        let sum: f64 = swaps.iter().map(|swap| swap[side]).sum();
+        sum / swaps.len() as f64
+    };
+    let within = |side: usize| (run[side] - check[side]) / f64::from(case.swaps);
+    Times {
+        check,
+        swap: [mean(0), mean(1)],
+        within: [within(0), within(1)],
+        run,
+    }
+}
+
+fn least<T>(best: &mut f64, work: impl FnOnce() -> T) {
+    let start = Instant::now();
+    let result = work();
+    let time = start.elapsed().as_secs_f64() * 1e6;
+    black_box(result);
+    *best = best.min(time);
+}
+
+impl Times {
+    fn print(&self) {
+        println!(
+            "{:<26} {:>10} {:>10} {:>7}",
+            "", "library", "ordinary", "ratio"
+        );
+        row("check", self.check);
+        row("swap, a call of its own", self.swap);
+        row("swap, within the run", self.within);
+        row("full run", self.run);
+    }
+}
+
+fn row(name: &str, [ours, theirs]: [f64; 2]) {
+    println!(
+        "{name:<26} {ours:>10.1} {theirs:>10.1} {:>7.2}",
+        ours / theirs
+    );
+}

@@ -1,0 +1,165 @@
+//! The plans, and the inversions that each of them takes away one by one.
+
+pub struct Plan {
+    pub name: &'static str,
+    /// The upper level of the pair to be swapped next, for an order and a
+    /// target; none where they are equal.
+    pub next: fn(&[u8], &[u8]) -> Option<usize>,
+}
+
+/// In the order of their numbers, from 0.
+pub const PLANS: [Plan; 4] = [
+    Plan {
+        name: "Bring Up",
+        next: bring_up,
+    },
+    Plan {
+        name: "Sink Down",
+        next: sink_down,
+    },
+    Plan {
+        name: "Lowest Inversion",
+        next: lowest_inversion,
+    },
+    Plan {
+        name: "Highest Inversion",
+        next: highest_inversion,
+    },
+];
+
+/// The plan of this number, if there is one.
+pub fn plan(number: u32) -> Option<&'static Plan> {
+    PLANS.get(number as usize)
+}
+
+/// "The level k nearest the top where order and target differ": the target's
+/// variable of it is "at level p", and p-1 and p are swapped.
+fn bring_up(order: &[u8], target: &[u8]) -> Option<usize> {
+    let mut levels = order.iter().zip(target);
+    let k = levels.position(|(here, there)| here != there)?;
+    let p = level_of(target[k], order);
+    Some(p - 1)
+}
+
+/// "The level k nearest the bottom where the orders differ": the target's
+/// variable of it is "at level p above", and p and p+1 are swapped.
+fn sink_down(order: &[u8], target: &[u8]) -> Option<usize> {
+    let mut levels = order.iter().zip(target);
+    let k = levels.rposition(|(here, there)| here != there)?;
+    let p = level_of(target[k], order);
+    Some(p)
+}
+
+/// The adjacent inverted pair "nearest the bottom".
+fn lowest_inversion(order: &[u8], target: &[u8]) -> Option<usize> {
+    inverted_neighbours(order, target).next_back()
+}
+
+/// The adjacent inverted pair nearest "the top".
+fn highest_inversion(order: &[u8], target: &[u8]) -> Option<usize> {
+    inverted_neighbours(order, target).next()
+}
+
+/// The upper level of each adjacent inverted pair, from the top downwards.
+fn inverted_neighbours<'a>(
+    order: &'a [u8],
+    target: &'a [u8],
+) -> impl DoubleEndedIterator<Item = usize> + 'a {
+    let neighbours = order.windows(2).enumerate();
+    neighbours
+        .filter(|(_, pair)| is_inversion(pair[0], pair[1], target))
+        .map(|(upper, _)| upper)
+}
+
+/// Left: the number of inversions.
+pub fn left(order: &[u8], target: &[u8]) -> usize {
+    let mut inversions = 0;
+    for upper in 0..order.len() {
+        for lower in upper + 1..order.len() {
+            if is_inversion(order[upper], order[lower], target) {
+                inversions += 1;
+            }
+        }
+    }
+    inversions
+}
+
+/// Of two variables, the first above the second in the order: "relative order
+/// differs between order and target".
+pub fn is_inversion(above: u8, below: u8, target: &[u8]) -> bool {
+    level_of(above, target) > level_of(below, target)
+}
+
+fn level_of(variable: u8, order: &[u8]) -> usize {
+    order
+        .iter()
+        .position(|&other| other == variable)
+        .expect("order and target hold the same variables")
+}
+
+#[cfg(test)]
+mod tests {
+    use super::*;
+
+    /// Every order of up to five variables with every target.
+    fn every_order_and_target() -> Vec<(Vec<u8>, Vec<u8>)> {
+        (1..=5)
+            .flat_map(|n| {
+                let targets = orders(n);
+                orders(n).into_iter().flat_map(move |order| {
+                    let with_order = |target: &Vec<u8>| (order.clone(), target.clone());
+                    targets.iter().map(with_order).collect::<Vec<_>>()
+                })
+            })
+            .collect()
+    }
+
+    fn orders(n: usize) -> Vec<Vec<u8>> {
+        let Some(last) = n.checked_sub(1) else {
+            return vec![Vec::new()];
+        };
+        let with_last = |shorter: Vec<u8>| {
+            (0..n).map(move |level| {
+                let mut order = shorter.clone();
+                order.insert(level, last as u8);
+                order
+            })
+        };
+        orders(last).into_iter().flat_map(with_last).collect()
+    }
+
+    /// The other way to tell the plans: among the adjacent inverted pairs, the
+    /// one whose rising variable is the target's highest, the one whose
+    /// sinking variable is its lowest, the lowest pair and the highest pair.
+    #[test]
+    fn each_plan_chooses_among_the_inverted_neighbours() {
+        for (order, target) in every_order_and_target() {
+            let pairs = || inverted_neighbours(&order, &target);
+            let rising = |&upper: &usize| level_of(order[upper + 1], &target);
+            let sinking = |&upper: &usize| level_of(order[upper], &target);
+            let chosen = [
+                pairs().min_by_key(rising),
+                pairs().max_by_key(sinking),
+                pairs().max(),
+                pairs().min(),
+            ];
+            let planned = PLANS.map(|plan| (plan.next)(&order, &target));
+            assert_eq!(planned, chosen, "{order:?} to {target:?}");
+        }
+    }
+
+    #[test]
+    fn each_plan_makes_as_many_swaps_as_there_are_inversions() {
+        for (order, target) in every_order_and_target() {
+            for plan in &PLANS {
+                let mut order = order.clone();
+                for _ in 0..left(&order, &target) {
+                    let upper = (plan.next)(&order, &target).expect("an inversion is left");
+                    order.swap(upper, upper + 1);
+                }
+                assert_eq!(order, target, "{}", plan.name);
+                assert_eq!((plan.next)(&order, &target), None, "{}", plan.name);
+            }
+        }
+    }
+}
