@@ -12,7 +12,7 @@
 
 /* The list that is lent for an answer lies at the start of this many entries. */
 #define LIST 8
-/* Bytes after each buffer that nobody may write to, and what they hold. */
+/* Bytes before and after each buffer that nobody may write to, and what they hold. */
 #define GUARD 16
 #define GUARDED 0xA5
 
@@ -47,21 +47,22 @@ static void tell(const void *bytes, size_t length)
 
 static struct buffer lend(uint32_t length)
 {
-    struct buffer b = {malloc((size_t)length + GUARD), length};
-    if (!b.bytes)
+    uint8_t *bytes = malloc((size_t)length + 2 * GUARD);
+    if (!bytes)
         fail("no memory");
-    take(b.bytes, length);
-    memset(b.bytes + length, GUARDED, GUARD);
-    return b;
+    memset(bytes, GUARDED, (size_t)length + 2 * GUARD);
+    take(bytes + GUARD, length);
+    return (struct buffer){bytes + GUARD, length};
 }
 
 static void give_back(struct buffer b)
 {
+    const uint8_t *before = b.bytes - GUARD, *after = b.bytes + b.length;
     for (size_t i = 0; i < GUARD; i++)
-        if (b.bytes[b.length + i] != GUARDED)
-            fail("the library wrote past the end of a buffer");
+        if (before[i] != GUARDED || after[i] != GUARDED)
+            fail("the library wrote outside a buffer");
     tell(b.bytes, b.length);
-    free(b.bytes);
+    free(b.bytes - GUARD);
 }
 
 static size_t ask(const struct question *q, struct buffer t, struct buffer r, struct buffer o, struct buffer m, uint32_t *list)

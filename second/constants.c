@@ -182,8 +182,6 @@ static void limits(void)
     expect("RELAY_MOST_VARIABLES", answer[0], RELAY_ACCEPTED);
     relay_check(table, 0, roots, 0, order, RELAY_MOST_VARIABLES + 1, answer, RELAY_CHECK_NUMBERS);
     expect("RELAY_MOST_VARIABLES and one", answer[0], RELAY_REFUSED_SIZES);
-    roots[0] = RELAY_TRUE;
-    roots[RELAY_ROOT_SIZE] = RELAY_FALSE;
     case_a();
     roots[0] = RELAY_TRUE;
     relay_read(table, 0, roots, RELAY_ROOT_SIZE, order, 2, 0, order, 2, answer, RELAY_READ_NUMBERS);

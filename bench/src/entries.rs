@@ -1,4 +1,4 @@
-//! The entries that are timed, as `include/relay.h` declares them.
+//! The entries that the bench calls, as `include/relay.h` declares them.
 
 extern "C" {
     pub fn relay_check(

@@ -32,8 +32,8 @@ pub fn plan(number: u32) -> Option<&'static Plan> {
     PLANS.get(number as usize)
 }
 
-/// "The level k nearest the top where order and target differ": the target's
-/// variable of it is "at level p", and p-1 and p are swapped.
+/// The target's variable of the topmost level that differs goes up (docs/RULES.md,
+/// 5.2).
 fn bring_up(order: &[u8], target: &[u8]) -> Option<usize> {
     let mut levels = order.iter().zip(target);
     let k = levels.position(|(here, there)| here != there)?;
@@ -41,8 +41,7 @@ fn bring_up(order: &[u8], target: &[u8]) -> Option<usize> {
     Some(p - 1)
 }
 
-/// "The level k nearest the bottom where the orders differ": the target's
-/// variable of it is "at level p above", and p and p+1 are swapped.
+/// The target's variable of the lowest level that differs goes down.
 fn sink_down(order: &[u8], target: &[u8]) -> Option<usize> {
     let mut levels = order.iter().zip(target);
     let k = levels.rposition(|(here, there)| here != there)?;
@@ -50,12 +49,12 @@ fn sink_down(order: &[u8], target: &[u8]) -> Option<usize> {
     Some(p)
 }
 
-/// The adjacent inverted pair "nearest the bottom".
+/// The adjacent inverted pair nearest the bottom.
 fn lowest_inversion(order: &[u8], target: &[u8]) -> Option<usize> {
     inverted_neighbours(order, target).next_back()
 }
 
-/// The adjacent inverted pair nearest "the top".
+/// The adjacent inverted pair nearest the top.
 fn highest_inversion(order: &[u8], target: &[u8]) -> Option<usize> {
     inverted_neighbours(order, target).next()
 }
@@ -84,8 +83,8 @@ pub fn left(order: &[u8], target: &[u8]) -> usize {
     inversions
 }
 
-/// Of two variables, the first above the second in the order: "relative order
-/// differs between order and target".
+/// Of two variables, the first above the second in the order: does the target
+/// have them the other way round?
 pub fn is_inversion(above: u8, below: u8, target: &[u8]) -> bool {
     level_of(above, target) > level_of(below, target)
 }

@@ -26,7 +26,7 @@ pub fn printed(files: &Files) -> String {
     let question = Question::Run {
         target: target.unwrap_or_default(),
         plan: plan.unwrap_or(NO_PLAN),
-        // "Runs with the largest budget."
+        // The largest there is.
         budget: u32::MAX,
     };
     let lines = match answer(&mut input, &question) {
@@ -42,8 +42,8 @@ pub fn printed(files: &Files) -> String {
     lines.iter().map(|line| format!("{line}\n")).collect()
 }
 
-/// "The number from the one byte" of the file, and 0 where it is missing; none
-/// for "a file of another length, empty too".
+/// The one byte of the file, or 0 where it is missing; none for a file of any
+/// other length.
 fn plan_number(file: Option<&[u8]>) -> Option<u32> {
     match file {
         None => Some(0),

@@ -31,7 +31,7 @@ pub struct Arguments<'a> {
 type Check = fn(Store, Arguments) -> Option<usize>;
 
 /// In the order in which they are made: that of their numbers, but for 13,
-/// which comes "after check 9".
+/// which comes after 9 (docs/RULES.md, 2.2).
 const CHECKS: [(u32, Check); 13] = [
     (1, length_outside),
     (2, |store, _| not_a_permutation(store.order)),
@@ -54,8 +54,8 @@ const CHECKS: [(u32, Check); 13] = [
     }),
 ];
 
-/// "Each over the whole buffer before the next": the first check that says no
-/// gives its number and place.
+/// Each goes over its whole buffer before the next: the first check that says
+/// no gives its number and place.
 pub fn first_refusal(store: Store, arguments: Arguments) -> Option<Refusal> {
     CHECKS.iter().find_map(|&(number, check)| {
         let place = check(store, arguments)?;
@@ -171,7 +171,7 @@ fn idle_record(store: Store) -> Option<usize> {
         .map(|(number, _)| place(number))
 }
 
-/// 13: "any other number" than a plan's; "the number as place".
+/// 13: a number that no plan has; the number is the place.
 fn no_such_plan(number: u32) -> Option<usize> {
     plans::plan(number).is_none().then_some(number as usize)
 }

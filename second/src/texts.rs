@@ -95,7 +95,7 @@ fn refused() -> Vec<(Files, &'static str)> {
     ]
 }
 
-/// "After check 9": good or bad, trip.pln changes nothing.
+/// Good or bad, trip.pln changes nothing about an earlier refusal.
 fn whatever_the_plan((files, text): (Files, &str)) -> Vec<(Files, String)> {
     let plans: [&[u8]; 5] = [&[1], &[], &[4], &[0, 0], &[0; 5_000]];
     let with = |plan| (with_plan(&files, plan), text.to_string());

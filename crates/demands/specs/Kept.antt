@@ -4,7 +4,7 @@
 use Prim.Native.Nat.{ℕ, _+_, _<_}
 use mathlib.Core.Bool.{Bool, true}
 use mathlib.Core.List.{List}
-use mathlib.Core.Path.{_≡_, refl, ap, sym, _∙_}
+use mathlib.Core.Path.{_≡_, ap, sym, _∙_}
 use lib.ListN.{length}
 use Rattle.diagrams.specs.Layout.{records, rootCount, rootAt, variableAt, isFree}
 use Rattle.diagrams.specs.Lookup.{lookup}

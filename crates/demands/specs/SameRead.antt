@@ -15,12 +15,10 @@ use Rattle.checks.specs.Stages.{Stage, stageAt, refusal, verdictOf, clear-if, r
 use Rattle.checks.specs.Check.{checkStages}
 use Rattle.checks.specs.Usable.{Usable, usable-then, all-pass}
 use Rattle.checks.specs.declared.Refusal.{Refusal}
-use Rattle.checks.specs.declared.Verdict.{Verdict}
 use Rattle.checks.specs.declared.Verdict.the-variants as verdict
 use Rattle.reading.specs.Read.{inputOf, noRoot, badInputs, readStages, rootValue, readAfter, readOf}
 use Rattle.swaps.specs.Outcome.{swapOf}
 use Rattle.swaps.specs.Entry.{made-only, made-is, made-usable, made-root-value, unmade-keeps}
-use Rattle.swaps.specs.declared.Lack.{Lack}
 use Rattle.swaps.specs.declared.SwapAnswer.{SwapAnswer}
 use Rattle.swaps.specs.declared.SwapAnswer.the-variants as swaps
 use Rattle.slices.specs.OneSwap.{plainSwap}

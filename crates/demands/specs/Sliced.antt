@@ -5,7 +5,7 @@
 -- after just so many. One that invents its numbers is refused by `orders-followed`, `left-told` and demand 1's `run-no-room-only`.
 use Prim.Native.Nat.{ℕ, _+_, _≤_}
 use mathlib.Core.List.{List, foldr}
-use mathlib.Core.Path.{_≡_, refl, ap, sym, _∙_}
+use mathlib.Core.Path.{_≡_, ap}
 use Rattle.plans.specs.Inversions.{left}
 use Rattle.plans.specs.Plans.{reached}
 use Rattle.plans.specs.Numbered.{planOf}

@@ -20,7 +20,7 @@ use Rattle.plans.specs.Inversions.{above, inverted, left}
 use Rattle.plans.specs.Plans.{differsAt, same?}
 use Rattle.plans.specs.BringUp.{firstDifference, bringUp, difference-inside, bring-up-below, bring-up-lawful}
 use Rattle.plans.specs.SinkDown.{lastDifference, sinkDown, last-inside}
-use Rattle.plans.specs.Nearest.{invertedAt, lowestInversion, highestInversion}
+use Rattle.plans.specs.Nearest.{invertedAt}
 use Rattle.plans.specs.Numbered.{planOf, meant}
 use Rattle.plans.specs.declared.Plan as coded
 use Rattle.plans.specs.Towards.{arranged-differ, arranged-adjacent}
@@ -31,15 +31,18 @@ differs-taken : (o g : List ℕ) (n k : ℕ) → k < n → differsAt (take n o) 
 unfolding differsAt
 differs-taken o g n k l = rw (getD-take n o k 0 l, getD-take n g k 0 l)
 
-first-taken : (o g : List ℕ) (n : ℕ) → first (differsAt (take n o) (take n g)) n ≡ first (differsAt o g) n
-first-taken o g n = first-agrees (differsAt (take n o) (take n g)) (differsAt o g) n (differs-taken o g n)
+-- by any search that asks nothing but the test below n: from the top, or from the bottom
+module _ (find : (ℕ → Bool) → ℕ → ℕ) (agrees : (p q : ℕ → Bool) (n : ℕ) → ((k : ℕ) → k < n → p k ≡ q k) → find p n ≡ find q n) where
+  found-taken : (o g : List ℕ) (n : ℕ) → find (differsAt (take n o) (take n g)) n ≡ find (differsAt o g) n
+  found-taken o g n = agrees (differsAt (take n o) (take n g)) (differsAt o g) n (differs-taken o g n)
 
-last-taken : (o g : List ℕ) (n : ℕ) → last (differsAt (take n o) (take n g)) n ≡ last (differsAt o g) n
-last-taken o g n = last-agrees (differsAt (take n o) (take n g)) (differsAt o g) n (differs-taken o g n)
+  found-is : (o g : Order) (n : ℕ) {k : ℕ} → Arranged o n → k ≡ find (differsAt (o .variables) (g .variables)) n
+      → find (differsAt (bytesOf o n) (bytesOf g n)) (length (bytesOf o n)) ≡ k
+  found-is o g n h e = rw (arranged-length h, found-taken (o .variables) (g .variables) n, e)
 
 pub same-returns : (o g : List ℕ) (n r : ℕ) → r ≡ first (differsAt o g) n → length o ≡ ceiling → n ≤ ceiling → not (ltb r n) ≡ same? (take n o) (take n g)
 unfolding same?
-same-returns o g n r e l h = rw (length-take-le n o (rw l h), first-taken o g n, e)
+same-returns o g n r e l h = rw (length-take-le n o (rw l h), found-taken first first-agrees o g n, e)
 
 -- ---- the inversions
 
@@ -65,7 +68,7 @@ module _ {o g : Order} {n : ℕ} (h : Arranged o n) (i : Arranged g n) where
     module _ {k : ℕ} (e : k ≡ first (differsAt (o .variables) (g .variables)) n) where
       first-is : firstDifference (bytesOf o n) (bytesOf g n) ≡ k
       unfolding firstDifference
-      first-is = rw (arranged-length h, first-taken (o .variables) (g .variables) n, e)
+      first-is = found-is first first-agrees o g n h e
 
       first-in : k < n
       first-in =
@@ -90,7 +93,7 @@ module _ {o g : Order} {n : ℕ} (h : Arranged o n) (i : Arranged g n) where
     module _ {k : ℕ} (e : k ≡ last (differsAt (o .variables) (g .variables)) n) where
       last-is : lastDifference (bytesOf o n) (bytesOf g n) ≡ k
       unfolding lastDifference
-      last-is = rw (arranged-length h, last-taken (o .variables) (g .variables) n, e)
+      last-is = found-is last last-agrees o g n h e
 
       last-in : k < n
       last-in =
@@ -104,24 +107,19 @@ module _ {o g : Order} {n : ℕ} (h : Arranged o n) (i : Arranged g n) where
       unfolding sinkDown
       sink-down-returns f q = rw last-is (sym (level-is last-in f q))
 
-    -- ---- Lowest and Highest Inversion: there are pairs of levels, and the searches go through all of them
-
-    pub some-pair : 1 ≤ n
-    some-pair = omega (arith, arranged-adjacent h i d bring-up-lawful .within, arranged-length h)
-
-  module _ {x : ℕ} where
-    pub lowest-returns : x ≡ last (invertedAt (bytesOf o n) (bytesOf g n)) (n - 1) → x ≡ lowestInversion (bytesOf o n) (bytesOf g n)
-    unfolding lowestInversion
-    lowest-returns e = rw (arranged-length h) e
-
-    pub highest-returns : x ≡ first (invertedAt (bytesOf o n) (bytesOf g n)) (n - 1) → x ≡ highestInversion (bytesOf o n) (bytesOf g n)
-    unfolding highestInversion
-    highest-returns e = rw (arranged-length h) e
-
 -- `search bringing` answers every need of `bring_up`, `search sinking` every one of `sink_down`
 pub ruleset bringing = (first-fits, below-top, bring-up-returns, needs)
 
 pub ruleset sinking = (last-fits, sink-down-returns, needs)
+
+-- ---- Lowest and Highest Inversion: there are pairs of levels, and the search goes through all of them
+
+pub some-pair : {o g : Order} {n : ℕ} → Arranged o n → Arranged g n → same? (bytesOf o n) (bytesOf g n) ≡ false → 1 ≤ n
+some-pair h i d = omega (arith, arranged-adjacent h i d bring-up-lawful .within, arranged-length h)
+
+pub nearest-returns : (find : (ℕ → Bool) → ℕ → ℕ) (o g : Order) (n : ℕ) {x : ℕ} → Arranged o n
+    → x ≡ find (invertedAt (bytesOf o n) (bytesOf g n)) (n - 1) → x ≡ find (invertedAt (bytesOf o n) (bytesOf g n)) (length (bytesOf o n) - 1)
+nearest-returns find o g n h e = rw (arranged-length h) e
 
 pub inverted-at-returns : (o g : Order) (n k : ℕ) {b : Bool} {u v : ℕ} → k + 1 < n → u ≡ getD (o .variables) k 0 → v ≡ getD (o .variables) (k + 1) 0
     → b ≡ inverted (bytesOf o n) (bytesOf g n) u v → b ≡ invertedAt (bytesOf o n) (bytesOf g n) k
@@ -130,20 +128,10 @@ inverted-at-returns o g n k l e f q = rw (getD-take n (o .variables) k 0 (omega 
 
 -- ---- by number
 
-module _ (number : ℕ) where
-  pub number-0 : number ≡ 0 → bringUp ≡ planOf number
-  unfolding planOf
-  number-0 e = rw e
+pub number-is : (number n : ℕ) → number ≡ n → planOf n ≡ planOf number
+number-is number n e = ap planOf (sym e)
 
-  pub number-1 : number ≡ 1 → sinkDown ≡ planOf number
-  unfolding planOf
-  number-1 e = rw e
-
-  pub number-2 : number ≡ 2 → lowestInversion ≡ planOf number
-  unfolding planOf
-  number-2 e = rw e
-
-pub number-rest : (number : ℕ) → (number ≡ 0 → ⊥) → (number ≡ 1 → ⊥) → (number ≡ 2 → ⊥) → highestInversion ≡ planOf number
+pub number-rest : (number : ℕ) → (number ≡ 0 → ⊥) → (number ≡ 1 → ⊥) → (number ≡ 2 → ⊥) → planOf 3 ≡ planOf number
 unfolding planOf
 number-rest zero f g h = absurd (f refl)
 number-rest (suc zero) f g h = absurd (g refl)

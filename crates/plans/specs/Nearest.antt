@@ -1,7 +1,7 @@
 -- The plans Lowest Inversion and Highest Inversion: the adjacent inverted pair nearest the bottom, or nearest the top.
 -- docs/RULES.md, 5.2.
 use Prim.Native.Nat.{ℕ, _+_, _-_, _<_}
-use mathlib.Core.Bool.{Bool, true}
+use mathlib.Core.Bool.{Bool}
 use mathlib.Core.List.{List}
 use mathlib.Core.Logic.{⊎-elim}
 use mathlib.Core.Path.{_≡_}

@@ -36,15 +36,15 @@ plan-of-lawful (suc (suc (suc (suc number)))) = highest-lawful
 
 -- ---- the plan that the code's own name of it means
 
+abbrev pub numberOf : coded.Plan → ℕ
+numberOf BringUp = 0
+numberOf SinkDown = 1
+numberOf LowestInversion = 2
+numberOf HighestInversion = 3
+
 unfoldable pub meant : coded.Plan → Plan
-meant BringUp = bringUp
-meant SinkDown = sinkDown
-meant LowestInversion = lowestInversion
-meant HighestInversion = highestInversion
+meant plan = planOf (numberOf plan)
 
 pub meant-lawful : (plan : coded.Plan) → Lawful (meant plan)
 unfolding meant
-meant-lawful BringUp = bring-up-lawful
-meant-lawful SinkDown = sink-down-lawful
-meant-lawful LowestInversion = lowest-lawful
-meant-lawful HighestInversion = highest-lawful
+meant-lawful plan = plan-of-lawful (numberOf plan)

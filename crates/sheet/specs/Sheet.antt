@@ -131,9 +131,16 @@ stores =
     ∷ swap (node 1 0 1 ∷ node 0 0 2 ∷ []) (3 ∷ []) 0
     1 (NoRoom 0 1 (lack 0 1 0)) (node 1 0 1 ∷ node 0 0 2 ∷ []) (0 ∷ 1 ∷ []) 2
     ∷ orders (1 ∷ 0 ∷ []) (1 ∷ 0 ∷ []) 0 0 (Done 0 0) (1 ∷ 0 ∷ [])
-    -- no plan has this number; a check of the table that fails wins over that
+    -- no plan has this number; a record that nothing names wins over that
     ∷ orders (0 ∷ 1 ∷ []) (1 ∷ 0 ∷ []) 4 1 (Refused (refusal 13 4)) (0 ∷ 1 ∷ [])
-    ∷ orders (0 ∷ 1 ∷ []) (1 ∷ 1 ∷ []) 4 1 (Refused (refusal 3 1)) (0 ∷ 1 ∷ [])
+    ∷ record {
+      given = record { records = node 0 0 1 ∷ []; roots = []; order = 0 ∷ 1 ∷ []; target = 1 ∷ 0 ∷ []; plan = 4; budget = 1 };
+      needed = 0;
+      answer = Refused (refusal 9 0);
+      records = node 0 0 1 ∷ [];
+      order = 0 ∷ 1 ∷ [];
+      used = 1;
+    }
     ∷ []
 
 -- each order on the way, by every plan

@@ -1,5 +1,5 @@
 -- One law for each way out of a function, over plain variables: its premises are what is known there.
-use Prim.Native.Nat.{ℕ, _+_, _*_, _%_, _≤_, _<_}
+use Prim.Native.Nat.{ℕ, _+_, _≤_, _<_}
 use mathlib.Core.Bool.{Bool, true, false, cond, not}
 use mathlib.Core.List.{List}
 use mathlib.Core.Path.{_≡_, refl, ap, ap₂, sym, _∙_}
@@ -7,7 +7,7 @@ use native.Mathlib.Omega.{arith}
 use borrow.Author.Needs.{needs}
 use borrow.Author.Tests.{not-true, not-false}
 use lib.Dec.{eqb}
-use lib.ListN.{length, getD}
+use lib.ListN.{length}
 use lib.Seq.{getD-take}
 use Rattle.lists.specs.First.{passed-all}
 use Rattle.lists.specs.Says.{true-false}
@@ -19,7 +19,7 @@ use Rattle.orders.specs.Arranged.{bytesOf, Arranged, load-bytes, load-arranged,
 use Rattle.orders.specs.declared.Order.{Order}
 use Rattle.plans.specs.Inversions.{left}
 use Rattle.plans.specs.Plans.{Plan, same?}
-use Rattle.plans.specs.Numbered.{planOf, noPlan, meant, meant-lawful}
+use Rattle.plans.specs.Numbered.{planOf, meant, meant-lawful}
 use Rattle.plans.specs.declared.Plan as coded
 use Rattle.plans.specs.Towards.{arranged-adjacent}
 use Rattle.slice_rules.specs.Slices as over
@@ -38,7 +38,7 @@ use Rattle.swaps.specs.declared.Way.the-variants as way
 use Rattle.slices.specs.OneSwap.{plainSwap}
 use Rattle.slices.specs.Run.{State, relay, badRunSizes, runStages, answerOf, ranTo, runJudged, runOf, SliceDone, RunOutcome}
 use Rattle.slices.specs.Run.{stateOf, Stepped, Driven, judgedOn}
-use Rattle.slices.specs.Theorems.{Ready, Startable, run-starts}
+use Rattle.slices.specs.Theorems.{Ready, run-starts}
 use Rattle.slices.specs.declared.RunAnswer.{RunAnswer}
 use Rattle.slices.specs.declared.RunAnswer.the-variants.{Done, NoRoom, Paused, Refused}
 use Rattle.slices.specs.declared.Turn.{Turn}

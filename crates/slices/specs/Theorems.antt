@@ -3,7 +3,7 @@
 use Prim.Native.Nat.{ℕ, _+_, _≤_, _<_}
 use mathlib.Core.Bool.{Bool, true, false, not}
 use mathlib.Core.List.{List, [], _∷_}
-use mathlib.Core.Logic.{_⊎_, inl, inr, ⊎-elim}
+use mathlib.Core.Logic.{_⊎_, inl, inr}
 use mathlib.Core.Path.{_≡_, refl, ap, sym, _∙_}
 use native.Mathlib.Omega.{arith}
 use borrow.Author.Tests.{eq-eqb, eqb-true, not-false}
@@ -19,7 +19,7 @@ use Rattle.plans.specs.Inversions.{left, left-same}
 use Rattle.plans.specs.Plans.{Plan, Lawful, reached}
 use Rattle.plans.specs.Numbered.{planOf, noPlan, plan-of-lawful}
 use Rattle.slice_rules.specs.Slices as over
-use Rattle.slice_rules.specs.Slices.{Relay, RelayLaws, done, meets}
+use Rattle.slice_rules.specs.Slices.{Relay, RelayLaws, meets}
 use Rattle.check_sizes.specs.Sizes.{Sizes, sizes-if, sizes-then, badSizes}
 use Rattle.checks.specs.Stages.{Stage, AllPass, none, also, both-rows, rows-pass, stageAt, only-passed, passed-only}
 use Rattle.checks.specs.Stages.{FailsFirst, refusal, verdictOf, clear-if, clear-only, refused-if, refused-only}

@@ -10,7 +10,7 @@ use Rattle.lists.specs.Apart.{apart}
 use Rattle.diagrams.specs.Layout.{recordSize, rootSize, mostRecords, mostRoots}
 use Rattle.orders.specs.Permutation.{ceiling}
 use Rattle.program.specs.Program.{Held}
-use Rattle.trip.specs.File.{Within, Filled, AllWithin}
+use Rattle.trip.specs.File.{planBuffer, Within, Filled, AllWithin}
 use Rattle.trip.specs.declared.File.{File}
 use Rattle.trip.specs.declared.File.the-variants.{Bytes}
 use Rattle.trip.specs.declared.Files.{Files}
@@ -38,6 +38,9 @@ module _ {t r o g : List ℕ} where
   none-within = record { read = λ a b c d s. apart (cc) }
 
 pub ruleset reading = (all-within, none-within, needs)
+
+pub one-byte : {l : List ℕ} → l ≡ planBuffer → 1 ≤ length l
+one-byte e = rw e (omega arith)
 
 -- ---- the parts of the buffers that the files fill
 

@@ -1,6 +1,6 @@
 -- The buffers of the files, and what came of reading a file and those of the store and its target.
 use Prim.Native.Nat.{ℕ, _+_, _*_, _≤_}
-use mathlib.Core.List.{List}
+use mathlib.Core.List.{List, [], _∷_}
 use mathlib.Core.Path.{_≡_}
 use lib.ListN.{length}
 use Rattle.diagrams.specs.Layout.{recordSize, rootSize, mostRecords, mostRoots}
@@ -16,6 +16,10 @@ pub record Buffers (t r o g : List ℕ) : Type 0 where
   pub roots : length r ≡ rootSize * mostRoots + 1
   pub order : length o ≡ ceiling + 1
   pub target : length g ≡ ceiling + 1
+
+-- the buffer of trip.pln, before it is read: one byte more than the file may have, and the number of the plan where there is no file
+abbrev pub planBuffer : List ℕ
+planBuffer = 0 ∷ 0 ∷ []
 
 -- what was read of a file stands in its buffer
 abbrev pub Within : File → List ℕ → Type 0

@@ -1,8 +1,9 @@
 // Reads a store from the files of the working folder, brings it to its target and prints what came of it. It writes to no file.
 ghost use Prim.Native.Nat.{_≤_};
+ghost use mathlib.Core.Path.{_≡_};
 ghost use lib.ListN.{length};
 ghost use Rattle.program.specs.Program.{Held};
-ghost use Rattle.trip.specs.File.{Buffers, Within, AllWithin};
+ghost use Rattle.trip.specs.File.{Buffers, planBuffer, Within, AllWithin};
 use diagrams::MOST_RECORDS;
 use diagrams::MOST_ROOTS;
 use diagrams::RECORD_SIZE;
@@ -90,6 +91,14 @@ fn load_all(table: &mut [u8], roots: &mut [u8], order: &mut [u8], target: &mut [
     }
 }
 
+// A missing trip.pln counts as one byte: 0, for Bring Up.
+fn load_plan(plan: &mut [u8]) -> File
+    requires { ⌜ now plan ≡ planBuffer ⌝ }
+    ensures { λ f. ⌜ Within f (now (plan .exit)) ⌝ }
+{
+    load(b"trip.pln", plan, 1)
+}
+
 // Writes the text of the program at once.
 fn print(table: &mut [u8], roots: &[u8], order: &mut [u8], target: &[u8], plan: &[u8])
     requires { ⌜ Held (now table) (now roots) (now order) ⌝ }
@@ -116,9 +125,8 @@ fn main() {
     else {
         return;
     };
-    // A missing trip.pln counts as one byte: 0, for Bring Up.
     let mut plan = [0u8; 2];
-    let File::Bytes(p) = load(b"trip.pln", &mut plan, 1) else {
+    let File::Bytes(p) = load_plan(&mut plan) else {
         return;
     };
     print(

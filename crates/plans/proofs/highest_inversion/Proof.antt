@@ -1,12 +1,13 @@
 use Prim.Native.Nat.{_-_}
-use Rattle.lists.specs.First.{Scan, scan}
+use Rattle.lists.specs.First.{first, Scan, scan}
 use Rattle.orders.specs.Arranged.{bytesOf}
-use Rattle.plans.specs.Nearest.{invertedAt}
-use Rattle.plans.proofs.Laws.{some-pair, highest-returns}
+use Rattle.plans.specs.Nearest.{invertedAt, highestInversion}
+use Rattle.plans.proofs.Laws.{some-pair, nearest-returns}
 use Rattle.plans.proofs.highest_inversion.Statement.{statement}
 use Rattle.plans.proofs.highest_inversion.Tie as tie
 
 pub highest-inversion-spec : {M : Type 1} → statement M
+unfolding highestInversion
 highest-inversion-spec =
     tie.close
     (tie.spec
@@ -15,8 +16,8 @@ highest-inversion-spec =
     (λ c. search some-pair)
     (λ c. search scan)
     (λ c κs. search scan)
-    (λ c. search (highest-returns, scan))
+    (λ c. search (nearest-returns first, scan))
     (λ c. search scan)
     (λ c. search scan)
     (λ c. search scan)
-    (λ c. search (highest-returns, scan)))
+    (λ c. search (nearest-returns first, scan)))

@@ -1,12 +1,13 @@
 use Prim.Native.Nat.{_-_}
-use Rattle.lists.specs.Last.{Descent, descent}
+use Rattle.lists.specs.Last.{last, Descent, descent}
 use Rattle.orders.specs.Arranged.{bytesOf}
-use Rattle.plans.specs.Nearest.{invertedAt}
-use Rattle.plans.proofs.Laws.{some-pair, lowest-returns}
+use Rattle.plans.specs.Nearest.{invertedAt, lowestInversion}
+use Rattle.plans.proofs.Laws.{some-pair, nearest-returns}
 use Rattle.plans.proofs.lowest_inversion.Statement.{statement}
 use Rattle.plans.proofs.lowest_inversion.Tie as tie
 
 pub lowest-inversion-spec : {M : Type 1} → statement M
+unfolding lowestInversion
 lowest-inversion-spec =
     tie.close
     (tie.spec
@@ -16,7 +17,7 @@ lowest-inversion-spec =
     (λ c. search descent)
     (λ c. search descent)
     (λ c κs. search descent)
-    (λ c. search (lowest-returns, descent))
+    (λ c. search (nearest-returns last, descent))
     (λ c. search descent)
     (λ c. search descent)
-    (λ c. search (lowest-returns, descent)))
+    (λ c. search (nearest-returns last, descent)))

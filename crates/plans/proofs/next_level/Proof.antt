@@ -1,11 +1,11 @@
 use borrow.Author.Needs.{needs}
-use Rattle.plans.specs.Numbered.{meant}
+use Rattle.plans.specs.Numbered.{planOf, meant}
 use Rattle.plans.proofs.Laws.{next-returns}
 use Rattle.plans.proofs.next_level.Statement.{statement}
 use Rattle.plans.proofs.next_level.Tie as tie
 
 pub next-level-spec : {M : Type 1} → statement M
-unfolding meant
+unfolding meant planOf
 next-level-spec =
     tie.close
     (tie.spec
