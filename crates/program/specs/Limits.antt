@@ -25,7 +25,8 @@ use Rattle.slices.specs.Theorems.{run-sizes}
 use Rattle.slices.specs.declared.RunAnswer.the-variants.{Refused}
 use Rattle.texts.specs.Text.{bytes, places, decimal, numbered}
 use Rattle.program.specs.Text.{answerText, answerLine, planText, storeText, printed}
-use Rattle.program.specs.Program.{programRun, programText}
+use Rattle.job.specs.Job.{jobOf}
+use Rattle.program.specs.Program.{programText}
 
 -- which file it is: trip.nod, trip.rts, trip.ord or trip.tgt is too long, or trip.rts doesn't hold whole roots
 pub data OverLimit (t r o g : List ℕ) : Type 0 where
@@ -50,8 +51,8 @@ module _ (t r o g : List ℕ) where
       sym (place-refuses 1 0 (badRunSizes t r o g) true _ (sym e) refl)
 
   -- whatever else the files hold, trip.pln too
-  pub over-refused : (p : List ℕ) → OverLimit t r o g → programRun t r o g p ≡ record { answer = Refused (refusal 1 0); table = t; order = o }
-  unfolding programRun runOf runStages
+  pub over-refused : (p : List ℕ) → OverLimit t r o g → jobOf t r o g p ≡ record { answer = Refused (refusal 1 0); table = t; order = o }
+  unfolding jobOf runOf runStages
   over-refused p h =
       let rest = stageAt 13 (getD p 0 0) (noPlan (getD p 0 0)) ∷ [] in
       let whole = sym (row-refuses (storeStages plainSwap t r o g) rest (refusal 1 0) (sym (first-fails h)) refl) in
@@ -81,7 +82,7 @@ same-text p p′ h k = over-printed _ _ _ _ p h ∙ sym (over-printed _ _ _ _ p�
 
 -- a plan file of two bytes or more tells no plan, as one cut after two
 plan-cut : (t r o g p : List ℕ) → programText t r o g (cut 1 p) ≡ programText t r o g p
-unfolding programText programRun
+unfolding programText jobOf
 plan-cut t r o g p = rw (getD-take 2 p 0 0 (omega arith), either-side 1 (length p) long (λ l. ap (λ x. eqb (length x) 1) (whole 1 p l)))
   where
     long : 1 < length p → eqb (length (cut 1 p)) 1 ≡ eqb (length p) 1

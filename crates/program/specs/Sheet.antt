@@ -7,10 +7,11 @@ use Rattle.checks.specs.Stages.{refusal}
 use Rattle.swaps.specs.Outcome.{lack}
 use Rattle.slices.specs.declared.RunAnswer.the-variants.{NoRoom, Refused}
 use Rattle.sheet.specs.Sheet.{outcome}
+use Rattle.job.specs.Job.{jobOf}
 use Rattle.texts.specs.Text.{bytes, places, decimal, numbered, inTurn}
 use Rattle.listing.specs.Text.{variableText, orderLine, fieldsText, contentText, recordLine, rootText, rootsLine, listing}
 use Rattle.program.specs.Text.{swapsText, lackText, answerText, answerLine, planLine, planText, storeText, printed}
-use Rattle.program.specs.Program.{programRun, programText}
+use Rattle.program.specs.Program.{programText}
 
 -- case A: the bytes of trip.nod, trip.rts, trip.ord, trip.tgt
 nod : List ℕ
@@ -31,16 +32,16 @@ pln = 0 ∷ []
 
 case-A : programText nod rts ord tgt pln ≡ bytes "plan 0\ndone swaps 1 left 0\norder 1 0\n0 free\n1 1 0 4\n2 0 0 1\nroots 3\n"
 unfolding nod rts ord tgt pln outcome first places decimal numbered inTurn variableText orderLine fieldsText contentText recordLine rootText rootsLine
-    listing swapsText answerText answerLine planLine planText storeText printed programRun programText
+    listing swapsText answerText answerLine planLine planText storeText printed jobOf programText
 case-A = refl
 
 -- a number that no plan has, and a file that isn't one byte
 no-plan : programText nod rts ord tgt (200 ∷ []) ≡ bytes "refused 13 place 200\n"
-unfolding nod rts ord tgt outcome first places decimal numbered answerText answerLine planLine planText storeText printed programRun programText
+unfolding nod rts ord tgt outcome first places decimal numbered answerText answerLine planLine planText storeText printed jobOf programText
 no-plan = refl
 
 empty-plan : programText nod rts ord tgt [] ≡ bytes "refused 13 place 0\n"
-unfolding nod rts ord tgt outcome first places decimal numbered answerText answerLine planLine planText storeText printed programRun programText
+unfolding nod rts ord tgt outcome first places decimal numbered answerText answerLine planLine planText storeText printed jobOf programText
 empty-plan = refl
 
 no-room : answerText (NoRoom 0 1 (lack 0 1 0)) ≡ bytes "no room swaps 0 left 1 level 0 needed 1 free 0"

@@ -1,17 +1,13 @@
 // What the program prints: from the bytes of its five files to the text, in one function. The other functions put their part of the text
 // into a lent list of bytes and hand back the place after it.
 ghost use mathlib.Core.Path.{_≡_};
-ghost use Prim.Native.Nat.{_<_, _≤_};
-ghost use lib.ListN.{length, getD};
-ghost use Rattle.checks.specs.Stages.{verdictOf};
-ghost use Rattle.slices.specs.OneSwap.{plainSwap};
-ghost use Rattle.slices.specs.Run.{storeStages};
+ghost use Prim.Native.Nat.{_≤_};
+ghost use lib.ListN.{length};
 ghost use Rattle.texts.specs.Put.{Put, Space, Printed};
 ghost use Rattle.program.specs.Text.{swapsText, lackText, answerText, answerLine, isRefused, planLine, planText, storeText, printed};
-ghost use Rattle.program.specs.Program.{unplanned, RanBy, Prints, mostText, Held};
+ghost use Rattle.program.specs.Program.{Prints, mostText, Held};
 ghost use Rattle.slices.specs.declared.RunAnswer.the-variants.{NoRoom, Refused};
 use checks::Refusal;
-use checks::Verdict;
 use diagrams::MOST_RECORDS;
 use diagrams::MOST_ROOTS;
 use orders::Order;
@@ -146,51 +142,6 @@ fn print(
     put_store(out, after_answer, answer, table, roots, order)
 }
 
-// ---- the run
-
-// The first byte of trip.pln; 0 where it is empty.
-fn number_in(plan: &[u8]) -> usize
-    ensures { λ r. ⌜ (r ≡ getD (now (plan .entry)) 0 0) × (r < 256) ⌝ }
-{
-    if plan.len() == 0 {
-        return 0;
-    }
-    diagrams::wide(plan[0])
-}
-
-// No plan is told: the first of checks 1 to 9 that fails, or else 13.
-fn refuse(table: &[u8], roots: &[u8], order: &[u8], target: &[u8]) -> RunAnswer
-    ensures { λ a.
-        ⌜ a ≡ unplanned (verdictOf (storeStages plainSwap (now (table .entry)) (now (roots .entry)) (now (order .entry)) (now (target .entry)))) ⌝ }
-{
-    match slices::verdict_of_store(table, roots, order, target) {
-        Verdict::Refused(refusal) => RunAnswer::Refused(refusal),
-        Verdict::Clear => RunAnswer::Refused(Refusal {
-            number: 13,
-            place: 0,
-        }),
-    }
-}
-
-// By the plan whose number is the one byte of trip.pln.
-fn run(table: &mut [u8], roots: &[u8], order: &mut [u8], target: &[u8], plan: &[u8]) -> RunAnswer
-    ensures { λ a.
-        ⌜ RanBy (now (table .entry)) (now (roots .entry)) (now (order .entry)) (now (target .entry)) (now (plan .entry)) a
-        (now (table .exit)) (now (order .exit)) ⌝ }
-{
-    if plan.len() != 1 {
-        return refuse(table, roots, order, target);
-    }
-    slices::run(
-        table,
-        roots,
-        order,
-        target,
-        number_in(plan) as u32,
-        u32::MAX,
-    )
-}
-
 // All that the program prints for the bytes of its files, from the first byte of `out` on; how many bytes that is. Brings the table and
 // the order as far towards the target as they go.
 pub fn text(
@@ -206,6 +157,6 @@ pub fn text(
         ⌜ Prints (now (table .entry)) (now (roots .entry)) (now (order .entry)) (now (target .entry)) (now (plan .entry))
         (now (out .entry)) (now (out .exit)) n ⌝ }
 {
-    let answer = run(table, roots, order, target, plan);
-    print(out, number_in(plan), answer, table, roots, order)
+    let answer = job::run(table, roots, order, target, plan);
+    print(out, job::number_in(plan), answer, table, roots, order)
 }

@@ -1,4 +1,4 @@
-// The reckoning of one swap: what its crossing records ask for, where each asked for is found, and how often each reference is named.
+// The reckoning of one swap: what its crossing records ask for, and where each asked for is found.
 // It reads the table and fills lists that the caller lends.
 ghost use mathlib.Core.Path.{_≡_};
 ghost use Rattle.swap_reckoning.specs.Searching.{withNeeded};
@@ -6,7 +6,6 @@ ghost use Rattle.swap_reckoning.specs.Reckoned.{SortRoom, WorkRoom, Sort
 use swap_records::Pair;
 use swap_records::collect;
 
-pub mod names;
 pub mod news;
 
 // How many records cross, stand, are new and are free.

@@ -14,7 +14,7 @@ use Rattle.diagrams.specs.declared.Fields.{Fields}
 use Rattle.swap_records.specs.Kinds.{ofAt}
 use Rattle.swap_records.specs.Listed.{entries}
 use Rattle.swap_records.specs.Pairs.{pairAt}
-use Rattle.swap_reckoning.specs.Naming.{unnamed}
+use Rattle.swap_names.specs.Naming.{unnamed}
 use Rattle.swap_result.specs.Image.{stayingAt, stayed, placed}
 
 -- ---- a record

@@ -28,8 +28,8 @@ use Rattle.swap_records.specs.Listed.{FreeListed, Inside, inside-of}
 use Rattle.swap_records.specs.Pairs.{pairAt, pairs-at}
 use Rattle.swap_records.specs.declared.Pair.{Pair}
 use Rattle.swap_reckoning.specs.Asked.{newsIn, becomesIn}
-use Rattle.swap_reckoning.specs.Naming.{unnamed}
-use Rattle.swap_reckoning.specs.Dying.{diesIn, Counted}
+use Rattle.swap_names.specs.Naming.{unnamed}
+use Rattle.swap_names.specs.Dying.{diesIn, Counted}
 use Rattle.swap_reckoning.specs.Noting.{slots-which}
 use Rattle.swap_reckoning.specs.Reckoned.{Reckoned, needed-is}
 use Rattle.swap_reckoning.specs.declared.Counts.{Counts}

@@ -13,7 +13,6 @@ use diagrams::Fields;
 use diagrams::RecordNumber;
 use diagrams::Variable;
 use swap_reckoning::Counts;
-use swap_reckoning::names;
 use swap_records::Pair;
 use swap_records::collect;
 use swap_records::pairs;
@@ -25,7 +24,7 @@ fn staying(table: &[u8], y: Variable, names: &[u16], i: RecordNumber) -> Fields
     requires { ⌜ InTable (now table) (i .0) × NamesFor (now table) (now names) ⌝ }
     ensures { λ f. ⌜ (laid f ≡ eight (stayingAt (now (table .entry)) (y .0) (now (names .entry)) (i .0))) × Fit f ⌝ }
 {
-    if swap_records::is_record_of(table, y, i) & names::is_unnamed(names, i) {
+    if swap_records::is_record_of(table, y, i) & swap_names::is_unnamed(names, i) {
         return Fields::free();
     }
     Fields::of(table, i)
@@ -85,7 +84,7 @@ pub fn fill(
     requires { ⌜ Fillable (now table) (now roots) pair (now crossing) (now standing) (now slots) (now news) (now kept) counts (now image) ⌝ }
     ensures { λ _. ⌜ Filled (now (table .entry)) (now (roots .entry)) pair (now (image .exit)) ⌝ }
 {
-    let names = names::count_names(table, roots, pair, standing, counts.standing);
+    let names = swap_names::count_names(table, roots, pair, standing, counts.standing);
     copy_staying(table, pair.y, &names, image);
     place_pairs(pair.x, news, slots, counts.needed, image);
     place_pairs(pair.y, kept, crossing, counts.crossing, image);

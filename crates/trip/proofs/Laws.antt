@@ -10,9 +10,10 @@ use Rattle.lists.specs.Apart.{apart}
 use Rattle.diagrams.specs.Layout.{recordSize, rootSize, mostRecords, mostRoots}
 use Rattle.orders.specs.Permutation.{ceiling}
 use Rattle.program.specs.Program.{Held}
-use Rattle.trip.specs.File.{planBuffer, Within, Filled, AllWithin}
-use Rattle.trip.specs.declared.File.{File}
-use Rattle.trip.specs.declared.File.the-variants.{Bytes}
+use Rattle.files.specs.File.{Within}
+use Rattle.files.specs.declared.File.{File}
+use Rattle.files.specs.declared.File.the-variants.{Bytes}
+use Rattle.trip.specs.Buffers.{planBuffer, Filled, AllWithin}
 use Rattle.trip.specs.declared.Files.{Files}
 use Rattle.trip.specs.declared.Files.the-variants.{Read}
 use Rattle.trip.specs.declared.Files.the-variants as files

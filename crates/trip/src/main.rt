@@ -1,59 +1,15 @@
 // Reads a store from the files of the working folder, brings it to its target and prints what came of it. It writes to no file.
-ghost use Prim.Native.Nat.{_≤_};
 ghost use mathlib.Core.Path.{_≡_};
-ghost use lib.ListN.{length};
 ghost use Rattle.program.specs.Program.{Held};
-ghost use Rattle.trip.specs.File.{Buffers, planBuffer, Within, AllWithin};
+ghost use Rattle.files.specs.File.{Within};
+ghost use Rattle.trip.specs.Buffers.{Buffers, planBuffer, AllWithin};
 use diagrams::MOST_RECORDS;
 use diagrams::MOST_ROOTS;
 use diagrams::RECORD_SIZE;
 use diagrams::ROOT_SIZE;
+use files::File;
 use libc::STDOUT_FILENO;
 use orders::Order;
-
-// What came of reading a file: so many bytes, or that standard error was told why it can't be read.
-enum File {
-    Bytes(usize),
-    Unreadable,
-}
-
-// Reads until the buffer is full or the file ends.
-fn read_whole(fd: i32, path: &[u8], buffer: &mut [u8]) -> File
-    ensures { λ f. ⌜ Within f (now (buffer .exit)) ⌝ }
-{
-    let mut done = 0;
-    while done < buffer.len() {
-        let got = libc::read(fd, &mut buffer[done..]);
-        if got < 0 {
-            os::fail(path);
-            return File::Unreadable;
-        }
-        let more = io::count(got, &buffer[done..]);
-        if more == 0 {
-            return File::Bytes(done);
-        }
-        done += more;
-    }
-    File::Bytes(done)
-}
-
-// A missing file counts as the first `missing` bytes of the buffer, as it was lent.
-fn load(path: &[u8], buffer: &mut [u8], missing: usize) -> File
-    requires { ⌜ missing ≤ length (now buffer) ⌝ }
-    ensures { λ f. ⌜ Within f (now (buffer .exit)) ⌝ }
-{
-    let fd = os::open_read(path);
-    if fd < 0 {
-        if os::errno() == libc::ENOENT {
-            return File::Bytes(missing);
-        }
-        os::fail(path);
-        return File::Unreadable;
-    }
-    let file = read_whole(fd, path, buffer);
-    libc::close(fd);
-    file
-}
 
 // How many bytes each file has, or that one of them can't be read.
 enum Files {
@@ -71,16 +27,16 @@ fn load_all(table: &mut [u8], roots: &mut [u8], order: &mut [u8], target: &mut [
     requires { ⌜ Buffers (now table) (now roots) (now order) (now target) ⌝ }
     ensures { λ f. ⌜ AllWithin f (now (table .exit)) (now (roots .exit)) (now (order .exit)) (now (target .exit)) ⌝ }
 {
-    let File::Bytes(table_bytes) = load(b"trip.nod", table, 0) else {
+    let File::Bytes(table_bytes) = files::load(b"trip.nod", table, 0) else {
         return Files::Unreadable;
     };
-    let File::Bytes(root_bytes) = load(b"trip.rts", roots, 0) else {
+    let File::Bytes(root_bytes) = files::load(b"trip.rts", roots, 0) else {
         return Files::Unreadable;
     };
-    let File::Bytes(order_bytes) = load(b"trip.ord", order, 0) else {
+    let File::Bytes(order_bytes) = files::load(b"trip.ord", order, 0) else {
         return Files::Unreadable;
     };
-    let File::Bytes(target_bytes) = load(b"trip.tgt", target, 0) else {
+    let File::Bytes(target_bytes) = files::load(b"trip.tgt", target, 0) else {
         return Files::Unreadable;
     };
     Files::Read {
@@ -96,7 +52,7 @@ fn load_plan(plan: &mut [u8]) -> File
     requires { ⌜ now plan ≡ planBuffer ⌝ }
     ensures { λ f. ⌜ Within f (now (plan .exit)) ⌝ }
 {
-    load(b"trip.pln", plan, 1)
+    files::load(b"trip.pln", plan, 1)
 }
 
 // Writes the text of the program at once.

@@ -1,0 +1,35 @@
+-- The program's one run, as a function of the bytes of its five files.
+-- docs/RULES.md, 7.1.
+use Prim.Native.Nat.{ℕ}
+use mathlib.Core.Bool.{cond}
+use mathlib.Core.List.{List}
+use mathlib.Core.Path.{_≡_}
+use lib.Dec.{eqb}
+use lib.ListN.{length, getD}
+use Rattle.checks.specs.Stages.{refusal, verdictOf}
+use Rattle.checks.specs.declared.Verdict.{Verdict}
+use Rattle.checks.specs.declared.Verdict.the-variants as verdict
+use Rattle.slices.specs.OneSwap.{plainSwap}
+use Rattle.slices.specs.Run.{Ran, storeStages, runOf}
+use Rattle.slices.specs.declared.RunAnswer.{RunAnswer}
+use Rattle.slices.specs.declared.RunAnswer.the-variants.{Refused}
+
+-- the largest number of 32 bits
+abbrev pub largestBudget : ℕ
+largestBudget = 4294967295
+
+-- no plan is told: refused by the first of checks 1 to 9 that fails, or else with 13 at place 0
+abbrev pub unplanned : Verdict → RunAnswer
+unplanned (verdict.Refused f) = Refused f
+unplanned verdict.Clear = Refused (refusal 13 0)
+
+-- One run with the largest budget, from the table, the roots and the order that the files hold, towards the target. The one byte of trip.pln is the
+-- plan's number; a file of any other length tells none.
+unfoldable pub jobOf : List ℕ → List ℕ → List ℕ → List ℕ → List ℕ → Ran
+jobOf t r o g p =
+    cond (eqb (length p) 1) (runOf plainSwap (getD p 0 0) t r o g largestBudget)
+    (record { answer = unplanned (verdictOf (storeStages plainSwap t r o g)); table = t; order = o })
+
+-- what the program's run may answer, and leave in the buffers
+abbrev pub JobOutcome : List ℕ → List ℕ → List ℕ → List ℕ → List ℕ → RunAnswer → List ℕ → List ℕ → Type 0
+JobOutcome t r o g p a t′ o′ = record { answer = a; table = t′; order = o′ } ≡ jobOf t r o g p

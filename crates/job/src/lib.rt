@@ -1,0 +1,60 @@
+// The program's one run, from the bytes of its files.
+ghost use mathlib.Core.Path.{_≡_};
+ghost use Prim.Native.Nat.{_<_};
+ghost use lib.ListN.{getD};
+ghost use Rattle.checks.specs.Stages.{verdictOf};
+ghost use Rattle.slices.specs.OneSwap.{plainSwap};
+ghost use Rattle.slices.specs.Run.{storeStages};
+ghost use Rattle.job.specs.Job.{unplanned, JobOutcome};
+use checks::Refusal;
+use checks::Verdict;
+use slices::RunAnswer;
+
+// The first byte of trip.pln; 0 where it is empty.
+pub fn number_in(plan: &[u8]) -> usize
+    ensures { λ r. ⌜ (r ≡ getD (now (plan .entry)) 0 0) × (r < 256) ⌝ }
+{
+    if plan.len() == 0 {
+        return 0;
+    }
+    diagrams::wide(plan[0])
+}
+
+// No plan is told: the first of checks 1 to 9 that fails, or else 13.
+fn refuse(table: &[u8], roots: &[u8], order: &[u8], target: &[u8]) -> RunAnswer
+    ensures { λ a.
+        ⌜ a ≡ unplanned (verdictOf (storeStages plainSwap (now (table .entry)) (now (roots .entry)) (now (order .entry)) (now (target .entry)))) ⌝ }
+{
+    match slices::verdict_of_store(table, roots, order, target) {
+        Verdict::Refused(refusal) => RunAnswer::Refused(refusal),
+        Verdict::Clear => RunAnswer::Refused(Refusal {
+            number: 13,
+            place: 0,
+        }),
+    }
+}
+
+// By the plan whose number is the one byte of trip.pln.
+pub fn run(
+    table: &mut [u8],
+    roots: &[u8],
+    order: &mut [u8],
+    target: &[u8],
+    plan: &[u8],
+) -> RunAnswer
+    ensures { λ a.
+        ⌜ JobOutcome (now (table .entry)) (now (roots .entry)) (now (order .entry)) (now (target .entry)) (now (plan .entry)) a
+        (now (table .exit)) (now (order .exit)) ⌝ }
+{
+    if plan.len() != 1 {
+        return refuse(table, roots, order, target);
+    }
+    slices::run(
+        table,
+        roots,
+        order,
+        target,
+        number_in(plan) as u32,
+        u32::MAX,
+    )
+}
