@@ -14,7 +14,8 @@
  * A buffer that a call may change shares no byte with another one lent to it, and nobody else reads it meanwhile.
  * An answer is a list of numbers, written to the front of the lent list `answer`; the call returns how many.
  * Entries beyond them stay as they are. A list too short for the call's longest answer is answered 0, with
- * nothing written to it and nothing changed in any buffer.
+ * nothing written to it and nothing changed in any buffer. relay_count has two places besides, for the count and for
+ * the share: a length of 0 for either is answered in the same way.
  */
 #ifndef RELAY_H
 #define RELAY_H
@@ -22,7 +23,7 @@
 #include <stddef.h>
 #include <stdint.h>
 
-#define RELAY_VERSION 2u
+#define RELAY_VERSION 3u
 
 /* Sizes and limits. */
 #define RELAY_RECORD_SIZE 8u
@@ -47,6 +48,7 @@
 /* The first number of an answer: what came of the call, or the number of a refusal. */
 #define RELAY_ACCEPTED 0u /* Check */
 #define RELAY_VALUE 0u    /* Read */
+#define RELAY_COUNTED 0u  /* Count */
 #define RELAY_MADE 0u     /* Swap */
 #define RELAY_DONE 0u     /* Run */
 #define RELAY_NO_ROOM 100u
@@ -70,6 +72,7 @@
 #define RELAY_CHECK_NUMBERS 2u
 #define RELAY_READ_NUMBERS 2u
 #define RELAY_SHOW_NUMBERS 2u
+#define RELAY_COUNT_NUMBERS 2u
 #define RELAY_SWAP_NUMBERS 4u
 #define RELAY_RUN_NUMBERS 6u
 #define RELAY_MOST_NUMBERS 6u
@@ -107,6 +110,21 @@ size_t relay_show(const uint8_t *table, size_t table_length,
                   const uint8_t *order, size_t order_length,
                   uint32_t position,
                   uint32_t *answer, size_t answer_length);
+
+/* Count under how many of the 2^n combinations of inputs the root at a position is 1. Changes no buffer but `count`,
+ * `share` and `answer`. `count` and `share` hold 1 or more, `answer` RELAY_COUNT_NUMBERS or more, whatever the answer
+ * will be; only their first entries are written.
+ *   counted: RELAY_COUNTED; the number of combinations in `count`, and in `share` that number over 2^n, exactly
+ *            (0.0 for none, 1.0 for all)
+ *   refused: the refusal's number (1, 2, 4 to 10), its place; `count` and `share` stay as they are
+ */
+size_t relay_count(const uint8_t *table, size_t table_length,
+                   const uint8_t *roots, size_t roots_length,
+                   const uint8_t *order, size_t order_length,
+                   uint32_t position,
+                   uint64_t *count, size_t count_length,
+                   double *share, size_t share_length,
+                   uint32_t *answer, size_t answer_length);
 
 /* Swap a level and the one below it. A made swap changes `table` and `order`; any other answer leaves both
  * as they are. `answer` holds RELAY_SWAP_NUMBERS or more, whatever the answer will be.

@@ -1,30 +1,37 @@
 /* Asks the library questions that come on standard input, one after the other, and tells on standard output what it wrote and what it left in
  * every buffer. So the second program, which puts the questions, runs on any machine, and the library in a process of its own.
  *
- * A question: eight 32-bit numbers (which entry; the lengths of table, roots, order and of one buffer more, the inputs or the target; the number
- * asked for: position, level or plan; the budget; how many entries of the list are lent), the list, and the four buffers.
- * The answer: the number of numbers written, the list and the four buffers, each whole.
+ * A question: ten 32-bit numbers (which entry; the lengths of table, roots, order and of one buffer more, the inputs or the target; the number
+ * asked for: position, level or plan; the budget; how many entries are lent of the list, of the places for a count and of those for a share), the
+ * list, both rows of places, and the four buffers.
+ * The answer: the number of numbers written, the list, the places and the four buffers, each whole.
  */
 #include <stdio.h>
 #include <stdlib.h>
 #include <string.h>
 #include "relay.h"
 
-/* The list that is lent for an answer lies at the start of this many entries. */
+/* The list and the places that are lent for an answer lie at the start of this many entries. */
 #define LIST 8
+#define PLACES 2
 /* Bytes before and after each buffer that nobody may write to, and what they hold. */
 #define GUARD 16
 #define GUARDED 0xA5
 
-enum { CHECK, READ, SHOW, SWAP, RUN };
+enum { CHECK, READ, SHOW, SWAP, RUN, COUNT };
 
 struct question {
-    uint32_t entry, table, roots, order, more, number, budget, entries;
+    uint32_t entry, table, roots, order, more, number, budget, entries, counts, shares;
 };
 
 struct buffer {
     uint8_t *bytes;
     size_t length;
+};
+
+/* What an answer is written to. */
+struct answer {
+    struct buffer list, counts, shares;
 };
 
 static void fail(const char *why)
@@ -45,12 +52,13 @@ static void tell(const void *bytes, size_t length)
         fail("nobody takes the answer");
 }
 
-static struct buffer lend(uint32_t length)
+/* As far from the start of an allocation as GUARD, a buffer is aligned for numbers of any kind. */
+static struct buffer lend(size_t length)
 {
-    uint8_t *bytes = malloc((size_t)length + 2 * GUARD);
+    uint8_t *bytes = malloc(length + 2 * GUARD);
     if (!bytes)
         fail("no memory");
-    memset(bytes, GUARDED, (size_t)length + 2 * GUARD);
+    memset(bytes, GUARDED, length + 2 * GUARD);
     take(bytes + GUARD, length);
     return (struct buffer){bytes + GUARD, length};
 }
@@ -65,8 +73,11 @@ static void give_back(struct buffer b)
     free(b.bytes - GUARD);
 }
 
-static size_t ask(const struct question *q, struct buffer t, struct buffer r, struct buffer o, struct buffer m, uint32_t *list)
+static size_t ask(const struct question *q, struct buffer t, struct buffer r, struct buffer o, struct buffer m, struct answer a)
 {
+    uint32_t *list = (uint32_t *)a.list.bytes;
+    uint64_t *counts = (uint64_t *)a.counts.bytes;
+    double *shares = (double *)a.shares.bytes;
     switch (q->entry) {
     case CHECK:
         return relay_check(t.bytes, t.length, r.bytes, r.length, o.bytes, o.length, list, q->entries);
@@ -78,6 +89,8 @@ static size_t ask(const struct question *q, struct buffer t, struct buffer r, st
         return relay_swap(t.bytes, t.length, r.bytes, r.length, o.bytes, o.length, q->number, list, q->entries);
     case RUN:
         return relay_run(t.bytes, t.length, r.bytes, r.length, o.bytes, o.length, m.bytes, m.length, q->number, q->budget, list, q->entries);
+    case COUNT:
+        return relay_count(t.bytes, t.length, r.bytes, r.length, o.bytes, o.length, q->number, counts, q->counts, shares, q->shares, list, q->entries);
     default:
         fail("no such entry");
         return 0;
@@ -88,14 +101,15 @@ int main(void)
 {
     struct question q;
     while (fread(&q, sizeof q, 1, stdin) == 1) {
-        uint32_t list[LIST];
-        if (q.entries > LIST)
+        if (q.entries > LIST || q.counts > PLACES || q.shares > PLACES)
             fail("a list too long");
-        take(list, sizeof list);
+        struct buffer list = lend(LIST * sizeof(uint32_t)), counts = lend(PLACES * sizeof(uint64_t)), shares = lend(PLACES * sizeof(double));
         struct buffer t = lend(q.table), r = lend(q.roots), o = lend(q.order), m = lend(q.more);
-        uint32_t written = (uint32_t)ask(&q, t, r, o, m, list);
+        uint32_t written = (uint32_t)ask(&q, t, r, o, m, (struct answer){list, counts, shares});
         tell(&written, sizeof written);
-        tell(list, sizeof list);
+        give_back(list);
+        give_back(counts);
+        give_back(shares);
         give_back(t);
         give_back(r);
         give_back(o);

@@ -16,7 +16,9 @@
 #define STACK (256 * 1024)
 #define LIST 8
 #define LEVELS RELAY_MOST_VARIABLES
+#define PLACES 2
 #define UNTOUCHED UINT32_C(0xA5A55A5A)
+#define UNTOUCHED_PLACE UINT64_C(0xA5A55A5A5A5AA5A5)
 
 /* 0: 1 (0,1); 1: 0 (0,2); 2: free; root 3; order 0 1 */
 static const uint8_t case_a[24] = {
@@ -353,12 +355,193 @@ static int refused_plan(uint32_t plan)
                   nothing);
 }
 
+/* The places of one call of relay_count. */
+struct places {
+    uint64_t counts[PLACES];
+    double shares[PLACES];
+};
+
+static struct places lend_places(void)
+{
+    struct places places;
+    const uint64_t untouched = UNTOUCHED_PLACE;
+    size_t place;
+
+    for (place = 0; place < PLACES; place++) {
+        places.counts[place] = untouched;
+        memcpy(&places.shares[place], &untouched, sizeof untouched);
+    }
+    return places;
+}
+
+/* The first place for a count and that for a share must hold this, the others
+ * what they held before. 0 where all is as expected. */
+static int places_differ(const char *name, const struct places *places,
+                         uint64_t count, uint64_t share)
+{
+    uint64_t bits[PLACES];
+
+    memcpy(bits, places->shares, sizeof bits);
+    if (places->counts[0] == count && places->counts[1] == UNTOUCHED_PLACE &&
+        bits[0] == share && bits[1] == UNTOUCHED_PLACE) {
+        return 0;
+    }
+    printf("boundary: %s: counts %" PRIu64 " %" PRIu64 ", shares %" PRIx64
+           " %" PRIx64 ", expected %" PRIu64 ", %" PRIx64 "\n",
+           name, places->counts[0], places->counts[1], bits[0], bits[1], count,
+           share);
+    return 1;
+}
+
+/* How many places and entries are lent. */
+struct lengths {
+    size_t counts, shares, entries;
+};
+
+static int count(const char *name, struct lent lent, uint32_t position,
+                 struct lengths lengths, struct expected expected,
+                 uint64_t number, uint64_t share)
+{
+    struct places places = lend_places();
+    size_t written = relay_count(
+        lent.table, lent.table_length, lent.roots, lent.roots_length,
+        lent.order, sizeof lent.order, position, places.counts, lengths.counts,
+        places.shares, lengths.shares, lent.list, lengths.entries);
+    return differs(name, &lent, written, expected) ||
+           places_differ(name, &places, number, share);
+}
+
+/* Bits of doubles. */
+#define QUARTER UINT64_C(0x3FD0000000000000)
+#define HALF UINT64_C(0x3FE0000000000000)
+#define ONE UINT64_C(0x3FF0000000000000)
+
+static int counted(const char *name, uint32_t position, struct lengths lengths,
+                   uint64_t number, uint64_t share)
+{
+    struct expected counted = {1, {RELAY_COUNTED}, case_a, order_0_1};
+
+    return count(name, lend(case_a, WHOLE, TWO_ROOTS), position, lengths,
+                 counted, number, share);
+}
+
+/* Nothing is written to any list, whether the table is good or not. */
+static int not_counted(const char *name, struct lengths lengths)
+{
+    struct expected nothing = {0, {0}, case_a, order_0_1};
+    struct expected nothing_damaged = {0, {0}, damaged, order_0_1};
+
+    return count(name, lend(case_a, WHOLE, ONE_ROOT), 0, lengths, nothing,
+                 UNTOUCHED_PLACE, UNTOUCHED_PLACE) ||
+           count(name, lend(damaged, WHOLE, ONE_ROOT), 0, lengths,
+                 nothing_damaged, UNTOUCHED_PLACE, UNTOUCHED_PLACE);
+}
+
+static int refused_counts(void)
+{
+    const struct lengths all = {PLACES, PLACES, LIST};
+    const struct lengths fewest = {1, 1, RELAY_COUNT_NUMBERS};
+    struct expected no_root = {
+        2, {RELAY_REFUSED_POSITION, 1}, case_a, order_0_1};
+    struct expected no_root_by_far = {
+        2, {RELAY_REFUSED_POSITION, UINT32_MAX}, case_a, order_0_1};
+    struct expected malformed = {
+        2, {RELAY_REFUSED_MALFORMED, 2}, damaged, order_0_1};
+    struct lent a = lend(case_a, WHOLE, ONE_ROOT);
+    struct lent spoilt = lend(damaged, WHOLE, ONE_ROOT);
+
+    return count("count A, no such root", a, 1, all, no_root, UNTOUCHED_PLACE,
+                 UNTOUCHED_PLACE) ||
+           count("count A, no such root by far", a, UINT32_MAX, fewest,
+                 no_root_by_far, UNTOUCHED_PLACE, UNTOUCHED_PLACE) ||
+           count("count A damaged, no such root", spoilt, 1, all, malformed,
+                 UNTOUCHED_PLACE, UNTOUCHED_PLACE);
+}
+
+/* The root of a table with 32 variables. */
+static int count_32(const char *name, const uint8_t *table, size_t table_length,
+                    uint8_t root, uint64_t number, uint64_t share)
+{
+    const uint8_t the_root[RELAY_ROOT_SIZE] = {root, 0};
+    uint8_t order[LEVELS];
+    uint32_t list[RELAY_COUNT_NUMBERS] = {UNTOUCHED, UNTOUCHED};
+    struct places places = lend_places();
+    size_t written;
+    uint8_t level;
+
+    for (level = 0; level < LEVELS; level++) {
+        order[level] = level;
+    }
+    written = relay_count(table, table_length, the_root, sizeof the_root, order,
+                          sizeof order, 0, places.counts, PLACES,
+                          places.shares, PLACES, list, RELAY_COUNT_NUMBERS);
+    if (written != 1 || list[0] != RELAY_COUNTED || list[1] != UNTOUCHED) {
+        printf("boundary: %s: %zu written, %" PRIu32 " %" PRIu32 "\n", name,
+               written, list[0], list[1]);
+        return 1;
+    }
+    return places_differ(name, &places, number, share);
+}
+
+/* Through all 32 levels: the low child of each record is this constant, the
+ * high one the record below; the last record is its variable. */
+static int count_down(const char *name, uint8_t constant, uint64_t number,
+                      uint64_t share)
+{
+    uint8_t table[RELAY_RECORD_SIZE * LEVELS] = {0};
+    uint8_t level;
+
+    for (level = 0; level < LEVELS; level++) {
+        uint8_t *record = table + RELAY_RECORD_SIZE * level;
+        int last = level + 1u == LEVELS;
+        record[0] = level;
+        record[2] = last ? RELAY_FALSE : constant;
+        record[4] = last ? RELAY_TRUE : (uint8_t)(level + 3);
+    }
+    return count_32(name, table, sizeof table, RELAY_FIRST_RECORD, number,
+                    share);
+}
+
+/* Without a record; the table's pointer is none the less a good one. */
+static int count_constant(const char *name, uint8_t constant, uint64_t number,
+                          uint64_t share)
+{
+    const uint8_t no_record[1] = {0};
+
+    return count_32(name, no_record, 0, constant, number, share);
+}
+
+static int counts(void)
+{
+    const struct lengths all = {PLACES, PLACES, LIST};
+    const struct lengths fewest = {1, 1, RELAY_COUNT_NUMBERS};
+    const struct lengths no_count = {0, PLACES, LIST};
+    const struct lengths no_share = {PLACES, 0, LIST};
+    const struct lengths list_of_1 = {PLACES, PLACES, 1};
+    const struct lengths list_of_0 = {PLACES, PLACES, 0};
+
+    return counted("count A", 0, all, 1, QUARTER) ||
+           counted("count A, fewest places", 0, fewest, 1, QUARTER) ||
+           counted("count C, second root", 1, all, 2, HALF) ||
+           not_counted("count A, no place for the count", no_count) ||
+           not_counted("count A, no place for the share", no_share) ||
+           not_counted("count A, list of 1", list_of_1) ||
+           not_counted("count A, list of 0", list_of_0) || refused_counts() ||
+           count_down("count 32 levels, one of them", RELAY_FALSE, 1,
+                      UINT64_C(0x3DF0000000000000)) ||
+           count_down("count 32 levels, all but one", RELAY_TRUE,
+                      UINT64_C(0xFFFFFFFF), UINT64_C(0x3FEFFFFFFFE00000)) ||
+           count_constant("count false, n = 32", RELAY_FALSE, 0, 0) ||
+           count_constant("count true, n = 32", RELAY_TRUE,
+                          UINT64_C(0x100000000), ONE);
+}
+
 /* Every case; the first that differs is told. */
 static void *cases(void *wrong)
 {
     *(int *)wrong = checks() || reads() || shows() || swaps() || runs() ||
                     refused_plan(RELAY_HIGHEST_INVERSION + 1) ||
-                    refused_plan(256) || refused_plan(UINT32_MAX);
+                    refused_plan(256) || refused_plan(UINT32_MAX) || counts();
     return NULL;
 }
 

@@ -33,6 +33,8 @@ static uint8_t roots[(RELAY_MOST_ROOTS + 1) * RELAY_ROOT_SIZE];
 static uint8_t order[RELAY_MOST_VARIABLES + 1];
 static uint8_t target[RELAY_MOST_VARIABLES + 1];
 static uint32_t answer[RELAY_MOST_NUMBERS];
+static uint64_t count[1];
+static double share[1];
 
 /* The calls, of so many records and roots, with two variables. */
 static uint32_t check(size_t records, size_t root_count)
@@ -45,6 +47,12 @@ static uint32_t run(size_t records, size_t root_count, uint32_t plan, uint32_t b
 {
     relay_run(table, records * RELAY_RECORD_SIZE, roots, root_count * RELAY_ROOT_SIZE, order, 2, target, 2, plan, budget, answer, RELAY_RUN_NUMBERS);
     return answer[0];
+}
+
+/* The root at a position of case A, with so many entries lent. */
+static uint32_t count_a(uint32_t position, size_t entries)
+{
+    return (uint32_t)relay_count(table, 24, roots, 2, order, 2, position, count, 1, share, 1, answer, entries);
 }
 
 /* Case A: record 0 is 1 (0,1), record 1 is 0 (0, record 0), record 2 is free; the root names record 1; from order 0 1 to 1 0. */
@@ -77,6 +85,12 @@ static void answers(void)
     expect("the offset of record 1", answer[0], RELAY_RECORD_SIZE);
     expect("RELAY_RECORD_SIZE", answer[1], RELAY_RECORD_SIZE);
     expect("a shorter list for Show", (uint32_t)relay_show(table, 24, roots, 2, order, 2, 0, answer, RELAY_SHOW_NUMBERS - 1), 0);
+
+    expect("the numbers of a count", count_a(0, RELAY_COUNT_NUMBERS), 1);
+    expect("RELAY_COUNTED", answer[0], RELAY_COUNTED);
+    expect("the count of case A", (uint32_t)count[0], 1);
+    expect("RELAY_COUNT_NUMBERS", count_a(1, RELAY_COUNT_NUMBERS), RELAY_COUNT_NUMBERS);
+    expect("a shorter list for Count", count_a(0, RELAY_COUNT_NUMBERS - 1), 0);
 
     expect("RELAY_PAUSED", run(3, 1, RELAY_BRING_UP, 0), RELAY_PAUSED);
     expect("RELAY_NO_ROOM of Run",

@@ -12,6 +12,22 @@ extern "C" {
         answer_length: usize,
     ) -> usize;
 
+    pub fn relay_count(
+        table: *const u8,
+        table_length: usize,
+        roots: *const u8,
+        roots_length: usize,
+        order: *const u8,
+        order_length: usize,
+        position: u32,
+        count: *mut u64,
+        count_length: usize,
+        share: *mut f64,
+        share_length: usize,
+        answer: *mut u32,
+        answer_length: usize,
+    ) -> usize;
+
     pub fn relay_swap(
         table: *mut u8,
         table_length: usize,

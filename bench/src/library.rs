@@ -1,9 +1,9 @@
-//! The three calls that the bench makes, each behind one safe function. Each
+//! The four calls that the bench makes, each behind one safe function. Each
 //! writes the answer's numbers into the lent list and tells how many it wrote.
 
-use crate::entries::{relay_check, relay_run, relay_swap};
+use crate::entries::{relay_check, relay_count, relay_run, relay_swap};
 use crate::generate::Buffers;
-use crate::ordinary::Plan;
+use crate::ordinary::{Counted, Plan};
 
 /// The first number of a run's answer, where it isn't a refusal's.
 pub const DONE: u32 = 0;
@@ -24,6 +24,33 @@ pub fn check(buffers: &Buffers, answer: &mut [u32; 6]) -> usize {
             roots.len(),
             order.as_ptr(),
             order.len(),
+            answer.as_mut_ptr(),
+            answer.len(),
+        )
+    }
+}
+
+/// Count and share are written into `counted`.
+pub fn count(
+    buffers: &Buffers,
+    position: u32,
+    counted: &mut Counted,
+    answer: &mut [u32; 6],
+) -> usize {
+    let (table, roots, order) = (&buffers.table, &buffers.roots, &buffers.order);
+    unsafe {
+        relay_count(
+            table.as_ptr(),
+            table.len(),
+            roots.as_ptr(),
+            roots.len(),
+            order.as_ptr(),
+            order.len(),
+            position,
+            &mut counted.count,
+            1,
+            &mut counted.share,
+            1,
             answer.as_mut_ptr(),
             answer.len(),
         )

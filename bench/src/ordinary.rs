@@ -3,6 +3,10 @@
 //! list of its records, the lower records of a swap are found by a HashMap,
 //! the free records are a BTreeSet, and each record counts its names.
 
+mod count;
+
+pub use count::{count, count_accepted, Counted};
+
 use std::collections::{BTreeSet, HashMap, HashSet};
 
 use crate::generate::Buffers;

@@ -11,7 +11,7 @@ use std::time::Instant;
 use crate::buddy;
 use crate::generate::{self, Buffers, Case, PLAN, RECORDS};
 use crate::library;
-use crate::ordinary::{self, Answer, Plan};
+use crate::ordinary::{self, Answer, Counted, Plan};
 
 pub fn print(repetitions: usize) -> ExitCode {
     for (seed, inputs) in [(1, 8), (2, 13)] {
@@ -56,6 +56,9 @@ fn agree(case: &Case, states: &[State]) {
     let count = library::check(&case.before, &mut answer);
     same(count, &answer, ordinary::check(&case.before));
 
+    agree_on_counts(&case.before);
+    agree_on_counts(&case.after);
+
     for state in states {
         let (mut ours, mut theirs) = (state.buffers.clone(), state.buffers.clone());
         let count = library::swap(&mut ours, state.level as u32, &mut answer);
@@ -69,6 +72,25 @@ fn agree(case: &Case, states: &[State]) {
         let expected = ordinary::run(&mut theirs, &case.target, plan, u32::MAX);
         same(count, &answer, expected);
         assert!(ours == theirs, "the buffers differ after a run by {plan:?}");
+    }
+}
+
+/// Both sides count the same for each root, with a share of the same bits, and
+/// refuse the position after the last.
+fn agree_on_counts(buffers: &Buffers) {
+    let mut answer = [0; 6];
+    for position in 0..=buffers.roots.len() / 2 {
+        let mut counted = Counted::default();
+        let numbers = library::count(buffers, position as u32, &mut counted, &mut answer);
+        match ordinary::count(buffers, position) {
+            Ok(expected) => {
+                assert_eq!(answer[..numbers], [0], "root {position} isn't counted");
+                assert_eq!(counted.count, expected.count, "the counts differ");
+                let (ours, theirs) = (counted.share.to_bits(), expected.share.to_bits());
+                assert_eq!(ours, theirs, "the shares differ");
+            }
+            Err(refused) => assert_eq!(answer[..numbers], refused.numbers()),
+        }
     }
 }
 
@@ -95,6 +117,11 @@ fn states(case: &Case) -> Vec<State> {
 /// Least times in microseconds, of the library and of the ordinary program.
 struct Times {
     check: [f64; 2],
+    /// The mean of all roots, each by a call of its own.
+    count: [f64; 2],
+    /// The same without the check. Of the library it is a difference, since no
+    /// call leaves the check out.
+    count_alone: [f64; 2],
     /// The mean of one swap in 31, each by a call of its own.
     swap: [f64; 2],
     /// The mean swap of the run: its time without that of its check.
@@ -106,6 +133,7 @@ struct Times {
 fn measure(case: &Case, states: &[State], repetitions: usize) -> Times {
     let none = [f64::INFINITY; 2];
     let mut check = none;
+    let mut counts = vec![[f64::INFINITY; 3]; case.before.roots.len() / 2];
     let mut swaps = vec![none; states.len()];
     let mut run = none;
     let mut answer = [0; 6];
@@ -116,15 +144,8 @@ fn measure(case: &Case, states: &[State], repetitions: usize) -> Times {
         });
         least(theirs, || ordinary::check(black_box(&case.before)));
 
-        for (state, [ours, theirs]) in states.iter().zip(&mut swaps) {
-            let mut buffers = state.buffers.clone();
-            least(ours, || {
-                library::swap(&mut buffers, state.level as u32, &mut answer)
-            });
-            let mut buffers = state.buffers.clone();
-            least(theirs, || ordinary::swap(&mut buffers, state.level));
-            black_box(&buffers);
-        }
+        time_counts(&case.before, &mut counts);
+        time_swaps(states, &mut swaps);
 
         let [ours, theirs] = &mut run;
         let mut buffers = case.before.clone();
@@ -137,17 +158,53 @@ fn measure(case: &Case, states: &[State], repetitions: usize) -> Times {
         });
         black_box(&buffers);
     }
-    let mean = |side: usize| {
-        let sum: f64 = swaps.iter().map(|swap| swap[side]).sum();
-        sum / swaps.len() as f64
-    };
+    let count = [mean(&counts, 0), mean(&counts, 1)];
     let within = |side: usize| (run[side] - check[side]) / f64::from(case.swaps);
     Times {
         check,
-        swap: [mean(0), mean(1)],
+        count,
+        count_alone: [count[0] - check[0], mean(&counts, 2)],
+        swap: [mean(&swaps, 0), mean(&swaps, 1)],
         within: [within(0), within(1)],
         run,
     }
+}
+
+/// The count of each root: the library's time, the ordinary program's, and the
+/// ordinary program's without its check.
+fn time_counts(buffers: &Buffers, counts: &mut [[f64; 3]]) {
+    let mut counted = Counted::default();
+    let mut answer = [0; 6];
+    for (position, [ours, theirs, alone]) in counts.iter_mut().enumerate() {
+        let number = position as u32;
+        least(ours, || {
+            library::count(black_box(buffers), number, &mut counted, &mut answer)
+        });
+        least(theirs, || ordinary::count(black_box(buffers), position));
+        least(alone, || {
+            ordinary::count_accepted(black_box(buffers), position)
+        });
+    }
+}
+
+/// The swap of each state.
+fn time_swaps(states: &[State], swaps: &mut [[f64; 2]]) {
+    let mut answer = [0; 6];
+    for (state, [ours, theirs]) in states.iter().zip(swaps) {
+        let mut buffers = state.buffers.clone();
+        least(ours, || {
+            library::swap(&mut buffers, state.level as u32, &mut answer)
+        });
+        let mut buffers = state.buffers.clone();
+        least(theirs, || ordinary::swap(&mut buffers, state.level));
+        black_box(&buffers);
+    }
+}
+
+/// The mean of one column.
+fn mean<const COLUMNS: usize>(times: &[[f64; COLUMNS]], column: usize) -> f64 {
+    let sum: f64 = times.iter().map(|row| row[column]).sum();
+    sum / times.len() as f64
 }
 
 fn least<T>(best: &mut f64, work: impl FnOnce() -> T) {
@@ -165,6 +222,8 @@ impl Times {
             "", "library", "ordinary", "ratio"
         );
         row("check", self.check);
+        row("count, with its check", self.count);
+        row("count alone", self.count_alone);
         row("swap, a call of its own", self.swap);
         row("swap, within the run", self.within);
         row("full run", self.run);

@@ -1,9 +1,10 @@
 //! Cases made by hand: what they are made of, and the library held to them.
 
-use crate::hold::{hold_library_to, Expected, LIST};
+use crate::hold::{hold_library_to, Expected};
 use crate::input::Input;
+use crate::lists::Lengths;
 use crate::model::{Answer, Question};
-use crate::{edges, sheet};
+use crate::{depths, edges, sheet};
 
 /// A question, and the answer and the buffers afterwards as the rules say.
 #[derive(Clone)]
@@ -38,7 +39,7 @@ impl Case {
 }
 
 pub fn cases() -> Vec<Case> {
-    edges::cases().into_iter().chain(sheet::cases()).collect()
+    [edges::cases(), sheet::cases(), depths::cases()].concat()
 }
 
 /// Holds the library to every case whose question is wanted, each asked with
@@ -47,8 +48,8 @@ pub fn hold_library_to_cases(wanted: fn(&Question) -> bool) -> Result<usize, Str
     let mut cases = cases();
     cases.retain(|case| wanted(&case.question));
     for case in &cases {
-        for entries in 0..=LIST {
-            hold_library_to(&case.expected, &case.input, &case.question, entries)
+        for lengths in Lengths::all(&case.question) {
+            hold_library_to(&case.expected, &case.input, &case.question, lengths)
                 .map_err(|report| format!("made by hand: {}\n{report}", case.name))?;
         }
     }

@@ -1,14 +1,17 @@
 //! The comparisons, each with random questions from fixed seeds.
 
 pub mod check;
+pub mod count;
 pub mod program;
 pub mod read;
 pub mod run;
 pub mod show;
 pub mod swap;
 
-use crate::hold::{hold_library_to, room, Expected, LIST};
+use crate::counts_kept::counts_kept;
+use crate::hold::{hold_library_to, Expected};
 use crate::input::Input;
+use crate::lists::Lengths;
 use crate::model::{answer, Answer, Question};
 use crate::random::Random;
 use crate::tally::Tally;
@@ -41,12 +44,12 @@ fn compared(input: &mut Input, question: &Question, random: &mut Random) -> Resu
         answer,
         after: input.clone(),
     };
-    let room = room(question);
     if random.once_in(4) {
-        hold_library_to(&expected, &before, question, random.below(room))?;
+        let too_short = Lengths::too_short(question, random);
+        hold_library_to(&expected, &before, question, too_short)?;
     }
-    let entries = random.between(room, LIST);
-    hold_library_to(&expected, &before, question, entries)?;
+    let enough = Lengths::enough(question, random);
+    hold_library_to(&expected, &before, question, enough)?;
     Ok(answer)
 }
 
@@ -56,6 +59,7 @@ fn name(answer: Answer) -> String {
         Answer::Refused(refusal) => format!("refused {}", refusal.number),
         Answer::Accepted { .. } => "accepted".to_string(),
         Answer::Value(value) => format!("value {value}"),
+        Answer::Counted { .. } => "counted".to_string(),
         Answer::Part { length: 0, .. } => "empty".to_string(),
         Answer::Part { .. } => "not empty".to_string(),
         Answer::Made => "made".to_string(),
@@ -63,6 +67,64 @@ fn name(answer: Answer) -> String {
         Answer::Done { .. } => "done".to_string(),
         Answer::Paused { .. } => "paused".to_string(),
     }
+}
+
+/// Once in how many swaps or runs the roots are counted before and after, and to
+/// how many that must come.
+struct KeptCounts {
+    once_in: usize,
+    fewest: usize,
+}
+
+/// Once in how many of those that are refused, where nothing has changed.
+const REFUSED_COUNTED_ONCE_IN: usize = 20;
+/// Each call compares every record with all earlier ones: where that makes more
+/// than this for all roots together, it would take too long.
+const MOST_COMPARISONS: usize = 1 << 24;
+
+/// A tally with lines more for the counts that swaps or runs with each of these
+/// answers kept.
+fn counts_kept_lines(tally: Tally, kept: &KeptCounts, answers: &[&str]) -> Tally {
+    let tally = tally
+        .line("every root's count kept", kept.fewest)
+        .line("roots counted before and after", kept.fewest);
+    answers.iter().fold(tally, |tally, answer| {
+        tally.line(&counts_kept_after(answer), FEWEST_OF_EACH_ANSWER)
+    })
+}
+
+fn counts_kept_after(answer: &str) -> String {
+    format!("every root's count kept, {answer}")
+}
+
+/// Now and then the library is held to keep every root's count, whatever a swap
+/// or run was answered.
+fn hold_to_counts_kept(
+    kept: &KeptCounts,
+    before: &Input,
+    after: &Input,
+    answer: Answer,
+    random: &mut Random,
+    tally: &mut Tally,
+) -> Result<(), String> {
+    let (once_in, answer) = match answer {
+        Answer::Refused(_) => (REFUSED_COUNTED_ONCE_IN, "refused".to_string()),
+        other => (kept.once_in, name(other)),
+    };
+    if !random.once_in(once_in) || takes_too_long(before) {
+        return Ok(());
+    }
+    for _ in 0..counts_kept(before, after)? {
+        tally.count("roots counted before and after");
+    }
+    tally.count("every root's count kept");
+    tally.count(&counts_kept_after(&answer));
+    Ok(())
+}
+
+fn takes_too_long(input: &Input) -> bool {
+    let used = input.store().used().count();
+    used * used * input.root_list().len() > MOST_COMPARISONS
 }
 
 /// A position of these roots, or one past them, near and far.

@@ -109,6 +109,19 @@ impl Diagram {
         self.nodes.len() > before
     }
 
+    /// A node on every level of an empty diagram, the lowest first: one child
+    /// is the node just below, the other any other edge. So the count of each
+    /// is odd, and can take all binary digits there are.
+    pub fn climb(&mut self, random: &mut Random) {
+        let mut below = Edge::Constant(random.coin());
+        for level in (0..self.n).rev() {
+            let mut children = [below, self.random_edge_but(below, random)];
+            random.shuffle(&mut children);
+            let [low, high] = children;
+            below = self.node(level, low, high);
+        }
+    }
+
     /// A constant counts as below every level.
     fn level(&self, edge: Edge) -> usize {
         match edge {
@@ -130,6 +143,15 @@ impl Diagram {
             1 => self.random_top(random),
             _ if self.nodes.is_empty() => Edge::Constant(random.coin()),
             _ => Edge::Node(random.below(self.nodes.len())),
+        }
+    }
+
+    fn random_edge_but(&self, edge: Edge, random: &mut Random) -> Edge {
+        loop {
+            let other = self.random_edge(random);
+            if other != edge {
+                return other;
+            }
         }
     }
 }

@@ -1,5 +1,6 @@
-//! Tables made by hand, with the answers that the rules give to Check.
-//! Neither the tables nor the answers are taken from the model.
+//! Tables made by hand, with the answers that the rules give to Check, and to
+//! Count where there is no such root. Neither the tables nor the answers are
+//! taken from the model.
 
 use crate::by_hand::{input, used, with, Bytes, Case, A_0, A_1, FREE};
 use crate::input::Input;
@@ -23,7 +24,28 @@ pub fn cases() -> Vec<Case> {
     ]
     .into_iter()
     .flatten()
+    .flat_map(|case| [counted(&case), case])
     .collect()
+}
+
+/// Count refuses what Check refuses, and otherwise that there is no root so far
+/// on.
+fn counted(case: &Case) -> Case {
+    let no_such_root = Refusal {
+        number: 10,
+        place: u32::MAX as usize,
+    };
+    let refusal = match case.expected.answer {
+        Answer::Refused(refusal) => refusal,
+        _ => no_such_root,
+    };
+    let position = u32::MAX;
+    Case::unchanged(
+        case.name,
+        case.input.clone(),
+        Question::Count { position },
+        Answer::Refused(refusal),
+    )
 }
 
 fn accepted(name: &'static str, used: usize, input: Input) -> Case {

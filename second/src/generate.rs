@@ -73,6 +73,20 @@ pub fn big(random: &mut Random) -> Input {
     of_shape(&shape, random).0
 }
 
+/// A random accepted input whose records stand on every level, one below the
+/// other: a root's count there takes as many binary digits as there are.
+pub fn deep(random: &mut Random) -> Input {
+    let n = if random.coin() {
+        MOST_VARIABLES
+    } else {
+        random.between(1, MOST_VARIABLES)
+    };
+    let mut diagram = Diagram::new(n);
+    diagram.climb(random);
+    let free = random_free(6, random);
+    in_a_table(&diagram, n, free, random)
+}
+
 /// The same diagram with so many free records, and its records at random
 /// places among them.
 pub fn with_free(input: &Input, free: usize, random: &mut Random) -> Input {
@@ -105,10 +119,16 @@ pub fn with_free(input: &Input, free: usize, random: &mut Random) -> Input {
 fn of_shape(shape: &Shape, random: &mut Random) -> (Input, usize) {
     let diagram = random_diagram(shape, random);
     let used = diagram.nodes().len();
-    let records = (used + shape.free).min(MOST_RECORDS);
-    let (mut input, references) = placed(&diagram, records, random_order(shape.n, random), random);
-    input.set_roots(&random_roots(&diagram, &references, random));
-    (input, used)
+    (in_a_table(&diagram, shape.n, shape.free, random), used)
+}
+
+/// The diagram with so many free records, unless they are too many, and with
+/// an order and roots of its own.
+fn in_a_table(diagram: &Diagram, n: usize, free: usize, random: &mut Random) -> Input {
+    let records = (diagram.nodes().len() + free).min(MOST_RECORDS);
+    let (mut input, references) = placed(diagram, records, random_order(n, random), random);
+    input.set_roots(&random_roots(diagram, &references, random));
+    input
 }
 
 pub fn random_order(n: usize, random: &mut Random) -> Vec<u8> {
@@ -311,6 +331,24 @@ mod tests {
             if moved.table.len() <= 32_768 {
                 assert_eq!(answer(&mut moved, &Question::Check), wanted, "seed {seed}");
             }
+        }
+    }
+
+    #[test]
+    fn what_is_deep_has_a_record_on_every_level() {
+        for seed in 0..500 {
+            let mut input = deep(&mut Random::from_seed(seed));
+            let used = input.order.len();
+            let wanted = Answer::Accepted { used };
+            assert_eq!(answer(&mut input, &Question::Check), wanted, "seed {seed}");
+            let numbers = input.used_numbers().into_iter();
+            let mut levels: Vec<_> = numbers.map(|number| input.level_of(number)).collect();
+            levels.sort();
+            assert_eq!(
+                levels,
+                (0..used).map(Some).collect::<Vec<_>>(),
+                "seed {seed}"
+            );
         }
     }
 

@@ -3,12 +3,8 @@
 use crate::input::Input;
 use crate::layout::{RECORD_BYTES, ROOT_BYTES};
 use crate::library;
+use crate::lists::{Lengths, Lists};
 use crate::model::{Answer, Question};
-
-/// The list that is lent for an answer lies at the start of a longer one.
-pub const LIST: usize = 8;
-/// What each entry holds before the call: no number of any answer.
-const UNTOUCHED: u32 = 0xA5A5_5A5A;
 
 /// What a call must answer, and the buffers as it must leave them.
 #[derive(Clone)]
@@ -24,6 +20,7 @@ fn numbers(answer: Answer) -> Vec<u32> {
         Answer::Refused(refusal) => vec![refusal.number, number(refusal.place)],
         Answer::Accepted { used } => vec![0, number(used)],
         Answer::Value(value) => vec![0, u32::from(value)],
+        Answer::Counted { .. } => vec![0],
         Answer::Part { offset, length } => vec![number(offset), number(length)],
         Answer::Made => vec![0],
         Answer::NoRoom(lack) => vec![
@@ -45,47 +42,46 @@ fn numbers(answer: Answer) -> Vec<u32> {
     }
 }
 
-/// The entries that the lent list must have: those of the longest answer.
-pub fn room(question: &Question) -> usize {
-    match question {
-        Question::Check | Question::Read { .. } | Question::Show { .. } => 2,
-        Question::Swap { .. } => 4,
-        Question::Run { .. } => 6,
+/// How many numbers an answer has, and the lists with it written to them.
+fn written(answer: Answer) -> (usize, Lists) {
+    let mut lists = Lists::untouched();
+    let numbers = numbers(answer);
+    lists.numbers[..numbers.len()].copy_from_slice(&numbers);
+    if let Answer::Counted { count, share } = answer {
+        lists.counts[0] = count;
+        lists.shares[0] = share;
     }
+    (numbers.len(), lists)
 }
 
-/// Asks the library with a list of so many entries lent. It must write the
-/// answer's numbers and leave the buffers as expected, or, where the list is
-/// too short, write nothing and change nothing; otherwise this is the report
-/// of what it did.
+/// Asks the library with so much of the lists lent. It must write the answer
+/// and leave the buffers as expected, or, where a list is too short, write
+/// nothing and change nothing; otherwise this is the report of what it did.
 pub fn hold_library_to(
     expected: &Expected,
     input: &Input,
     question: &Question,
-    entries: usize,
+    lengths: Lengths,
 ) -> Result<(), String> {
     let mut lent = input.clone();
     let mut lent_question = question.clone();
-    let mut list = [UNTOUCHED; LIST];
-    let written = library::ask(&mut lent, &mut lent_question, &mut list, entries)?;
+    let mut lists = Lists::untouched();
+    let count = library::ask(&mut lent, &mut lent_question, &mut lists, lengths)?;
 
-    let answered = entries >= room(question);
-    let numbers = if answered {
-        numbers(expected.answer)
+    let answered = lengths.suffice(question);
+    let (expected_count, expected_lists) = if answered {
+        written(expected.answer)
     } else {
-        Vec::new()
+        (0, Lists::untouched())
     };
-    let mut expected_list = [UNTOUCHED; LIST];
-    expected_list[..numbers.len()].copy_from_slice(&numbers);
-    if written != numbers.len() || list != expected_list {
+    if count != expected_count || lists != expected_lists {
         return Err(format!(
-            "a list of {entries} entries was lent (-: left as it was)\n\
-             library:  {written} written, list {}\n\
-             expected: {} written, list {}, for {:?}\n\
+            "lent were {lengths:?} (-: left as it was)\n\
+             library:  {count} written, {}\n\
+             expected: {expected_count} written, {}, for {:?}\n\
              {question:?}\n{}",
-            entries_text(&list),
-            numbers.len(),
-            entries_text(&expected_list),
+            lists.text(),
+            expected_lists.text(),
             expected.answer,
             hex(input)
         ));
@@ -104,17 +100,6 @@ pub fn hold_library_to(
         ));
     }
     Ok(())
-}
-
-fn entries_text(list: &[u32]) -> String {
-    let texts: Vec<String> = list
-        .iter()
-        .map(|&entry| match entry {
-            UNTOUCHED => "-".to_string(),
-            number => number.to_string(),
-        })
-        .collect();
-    texts.join(" ")
 }
 
 /// The buffers, a group of digits for each record, root and variable.

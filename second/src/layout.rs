@@ -2,23 +2,23 @@
 
 use std::collections::HashSet;
 
-/// The table has "8-byte records, 0 to 4,096 of them".
+/// The table: at most so many records of so many bytes.
 pub const RECORD_BYTES: usize = 8;
 pub const MOST_RECORDS: usize = 4_096;
 
-/// The roots are "0 to 64 references of 16 bits".
+/// The roots: at most so many references of so many bytes.
 pub const ROOT_BYTES: usize = 2;
 pub const MOST_ROOTS: usize = 64;
 
-/// "n from 1 to 32".
+/// n is at least 1 and at most this.
 pub const MOST_VARIABLES: usize = 32;
 
-/// Byte 0 of a free record; "a free record is 255 followed by seven zeros".
+/// Byte 0 of a free record, and the whole of a well-formed one.
 pub const FREE: u8 = 255;
 pub const FREE_RECORD: [u8; RECORD_BYTES] = [FREE, 0, 0, 0, 0, 0, 0, 0];
 
-// "A record number, a reference and a variable are three different kinds of
-// number": each has a type of its own.
+// Record numbers, references and variables are easily taken for one another:
+// each has a type of its own.
 
 #[derive(Clone, Copy, Debug, PartialEq, Eq, PartialOrd, Ord, Hash)]
 pub struct RecordNumber(pub usize);
@@ -30,7 +30,7 @@ pub struct Reference(pub u16);
 pub struct Variable(pub u8);
 
 impl Reference {
-    /// "Reference 0 is false, 1 is true".
+    /// The references 0 and 1 are the constants.
     pub fn constant(value: bool) -> Reference {
         Reference(u16::from(value))
     }
@@ -40,7 +40,7 @@ impl Reference {
         Reference(u16::try_from(number.0 + 2).expect("a record number is below 4,096"))
     }
 
-    /// "r of 2 or more is record r-2"; none for a constant.
+    /// The record that this names, two below it; none for a constant.
     pub fn record(self) -> Option<RecordNumber> {
         usize::from(self.0).checked_sub(2).map(RecordNumber)
     }
@@ -55,8 +55,8 @@ pub struct Record {
 }
 
 impl Record {
-    /// "Byte 0 is the variable, byte 1 zero, bytes 2 and 3 the low reference,
-    /// 4 and 5 the high reference, 6 and 7 zero", little-endian.
+    /// The variable, and from bytes 2 and 4 onwards both references,
+    /// little-endian (docs/RULES.md, 1.1); the other bytes aren't looked at.
     pub fn from_bytes(bytes: &[u8]) -> Record {
         Record {
             variable: Variable(bytes[0]),
@@ -109,12 +109,12 @@ impl<'a> Store<'a> {
         &self.table[number.0 * RECORD_BYTES..][..RECORD_BYTES]
     }
 
-    /// "A record whose byte 0 is 255 counts as free, whatever follows it".
+    /// Byte 0 alone tells it; the others may be anything.
     pub fn is_free(self, number: RecordNumber) -> bool {
         self.bytes(number)[0] == FREE
     }
 
-    /// "Every other one is used": these, in rising record number.
+    /// The records that aren't free, in rising record number.
     pub fn used(self) -> impl Iterator<Item = (RecordNumber, Record)> + 'a {
         self.record_numbers()
             .filter(move |&number| !self.is_free(number))
@@ -145,8 +145,8 @@ impl<'a> Store<'a> {
             .map(|bytes| Reference(u16::from_le_bytes([bytes[0], bytes[1]])))
     }
 
-    /// "Byte k is the variable at level k; level 0 is the top"; none for a
-    /// variable that the order lacks.
+    /// The level is the place in the order, counted from 0 at the top; none for
+    /// a variable that the order lacks.
     pub fn level(self, variable: Variable) -> Option<usize> {
         self.order.iter().position(|&byte| byte == variable.0)
     }

@@ -6,8 +6,8 @@ use std::path::Path;
 use std::process::{Child, ChildStdin, ChildStdout, Stdio};
 use std::sync::{Mutex, OnceLock};
 
-use crate::hold::LIST;
 use crate::input::Input;
+use crate::lists::{Lengths, Lists};
 use crate::machine::command;
 use crate::model::Question;
 
@@ -39,18 +39,18 @@ pub fn start(program: &Path) -> Result<(), String> {
         .map_err(|_| "the library is started once".to_string())
 }
 
-/// Asks the question with so many entries of the list lent; how many numbers
-/// the library wrote. List, input and question are what it left.
+/// Asks the question with so much of the lists lent; how many numbers the
+/// library wrote. Lists, input and question are what it left.
 pub fn ask(
     input: &mut Input,
     question: &mut Question,
-    list: &mut [u32; LIST],
-    entries: usize,
+    lists: &mut Lists,
+    lengths: Lengths,
 ) -> Result<usize, String> {
     let library = LIBRARY.get().ok_or("the library isn't started")?;
     let mut library = library.lock().expect("nobody else asks it");
-    put(&mut library, input, question, list, entries)
-        .and_then(|()| taken(&mut library, input, question, list))
+    put(&mut library, input, question, lists, lengths)
+        .and_then(|()| taken(&mut library, input, question, lists))
         .map_err(|error| format!("the library doesn't answer: {error}"))
 }
 
@@ -67,6 +67,7 @@ fn asked(question: &mut Question) -> (u32, u32, u32, &mut [u8]) {
             plan,
             budget,
         } => (4, *plan, *budget, target),
+        Question::Count { position } => (5, *position, 0, &mut []),
     }
 }
 
@@ -74,26 +75,24 @@ fn put(
     library: &mut Library,
     input: &Input,
     question: &mut Question,
-    list: &[u32; LIST],
-    entries: usize,
+    lists: &Lists,
+    lengths: Lengths,
 ) -> io::Result<()> {
     let (entry, number, budget, more) = asked(question);
-    let [table, roots, order, length] =
-        [&input.table, &input.roots, &input.order, &*more].map(|buffer| buffer.len() as u32);
-    let numbers = [
-        entry,
-        table,
-        roots,
-        order,
-        length,
-        number,
-        budget,
-        entries as u32,
+    let buffers = [&input.table, &input.roots, &input.order, &*more];
+    let [table, roots, order, length] = buffers.map(|buffer| buffer.len() as u32);
+    let [numbers, counts, shares] =
+        [lengths.numbers, lengths.counts, lengths.shares].map(|length| length as u32);
+    let head = [
+        entry, table, roots, order, length, number, budget, numbers, counts, shares,
     ];
-    for number in numbers.iter().chain(list) {
+    for number in head.iter().chain(&lists.numbers) {
         library.questions.write_all(&number.to_le_bytes())?;
     }
-    for buffer in [&input.table, &input.roots, &input.order, &*more] {
+    for place in lists.counts.iter().chain(&lists.shares) {
+        library.questions.write_all(&place.to_le_bytes())?;
+    }
+    for buffer in buffers {
         library.questions.write_all(buffer)?;
     }
     library.questions.flush()
@@ -103,22 +102,26 @@ fn taken(
     library: &mut Library,
     input: &mut Input,
     question: &mut Question,
-    list: &mut [u32; LIST],
+    lists: &mut Lists,
 ) -> io::Result<usize> {
     let (_, _, _, more) = asked(question);
-    let written = number(&mut library.answers)?;
-    for entry in list {
-        *entry = number(&mut library.answers)?;
+    let answers = &mut library.answers;
+    let written = u32::from_le_bytes(bytes(answers)?);
+    for number in &mut lists.numbers {
+        *number = u32::from_le_bytes(bytes(answers)?);
+    }
+    for place in lists.counts.iter_mut().chain(&mut lists.shares) {
+        *place = u64::from_le_bytes(bytes(answers)?);
     }
     for buffer in [&mut input.table, &mut input.roots, &mut input.order] {
-        library.answers.read_exact(buffer)?;
+        answers.read_exact(buffer)?;
     }
-    library.answers.read_exact(more)?;
+    answers.read_exact(more)?;
     Ok(written as usize)
 }
 
-fn number(answers: &mut impl Read) -> io::Result<u32> {
-    let mut bytes = [0; 4];
+fn bytes<const COUNT: usize>(answers: &mut impl Read) -> io::Result<[u8; COUNT]> {
+    let mut bytes = [0; COUNT];
     answers.read_exact(&mut bytes)?;
-    Ok(u32::from_le_bytes(bytes))
+    Ok(bytes)
 }

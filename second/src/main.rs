@@ -1,15 +1,19 @@
 //! The second program: the relay's rules read once more, independently of the
 //! library, and both compared on cases made by hand and at random.
 //!
-//! `layout`, `refusals`, `value`, `swap`, `plans`, `slice`, `model` and
-//! `printed` are the reading of the rules, and `kept` holds that reading to
-//! what it must keep. `library` is the other side, in a process of its own, and
-//! `hold` and `compare` ask both. The cases made by hand are in `edges`, `sheet` and
-//! `texts`; the rest makes random ones.
+//! `layout`, `refusals`, `value`, `count`, `share`, `swap`, `plans`, `slice`,
+//! `model` and `printed` are the reading of the rules, and `kept` holds that
+//! reading to what it must keep. `library` is the other side, in a process of
+//! its own, `hold` and `compare` ask both, and `counts_kept` holds the library
+//! to what it must keep. The cases made by hand are in `edges`, `sheet`,
+//! `depths` and `texts`; the rest makes random ones.
 
 mod by_hand;
 mod compare;
+mod count;
+mod counts_kept;
 mod damage;
+mod depths;
 mod diagram;
 mod edges;
 mod generate;
@@ -18,6 +22,7 @@ mod input;
 mod kept;
 mod layout;
 mod library;
+mod lists;
 mod machine;
 mod model;
 mod plans;
@@ -25,6 +30,7 @@ mod printed;
 mod random;
 mod refusals;
 mod sample;
+mod share;
 mod sheet;
 mod slice;
 mod swap;
@@ -41,9 +47,9 @@ use crate::model::Question;
 use crate::tally::Tally;
 
 const USAGE: &str = "\
-usage: compare library ASK [check | read | show | swap | run] [number of random questions]
+usage: compare library ASK [check | read | show | swap | run | count] [number of random questions]
        compare program TRIP [number of random runs]
-ASK: the program of ask.c, linked with the library; without a word after it: all five.
+ASK: the program of ask.c, linked with the library; without a word after it: all six.
 RELAY_RUN names x86_64/run where these programs can't be run by themselves.";
 
 /// A comparison that a word asks for.
@@ -54,7 +60,7 @@ struct Part {
     compare: fn(u64) -> Result<Tally, String>,
 }
 
-const PARTS: [Part; 5] = [
+const PARTS: [Part; 6] = [
     Part {
         word: "check",
         is_asked_by: |question| matches!(question, Question::Check),
@@ -84,6 +90,12 @@ const PARTS: [Part; 5] = [
         is_asked_by: |question| matches!(question, Question::Run { .. }),
         questions: compare::run::QUESTIONS,
         compare: compare::run::compare,
+    },
+    Part {
+        word: "count",
+        is_asked_by: |question| matches!(question, Question::Count { .. }),
+        questions: compare::count::QUESTIONS,
+        compare: compare::count::compare,
     },
 ];
 

@@ -1,9 +1,11 @@
-//! "What can be asked": the five operations, and the answers to them.
+//! What may be asked: the six operations, and the answers to them.
 
+use crate::count;
 use crate::input::Input;
 use crate::layout::RECORD_BYTES;
 use crate::plans;
 use crate::refusals::{first_refusal, Arguments, Refusal};
+use crate::share::share_bits;
 use crate::slice::slice;
 use crate::swap::{swap, Lack};
 use crate::value::value;
@@ -28,13 +30,16 @@ pub enum Question {
         plan: u32,
         budget: u32,
     },
+    Count {
+        position: u32,
+    },
 }
 
 #[derive(Clone, Copy, Debug, PartialEq, Eq)]
 pub enum Answer {
     /// Any operation but Show.
     Refused(Refusal),
-    /// Check: "accepted, with the number of used records".
+    /// Check, with the number of used records.
     Accepted {
         used: usize,
     },
@@ -63,6 +68,11 @@ pub enum Answer {
         left: usize,
         lack: Lack,
     },
+    /// Count: the share is the bits of a double.
+    Counted {
+        count: u64,
+        share: u64,
+    },
 }
 
 const EMPTY_PART: Answer = Answer::Part {
@@ -70,12 +80,12 @@ const EMPTY_PART: Answer = Answer::Part {
     length: 0,
 };
 
-/// The answer; the input becomes what it is afterwards. "A refusal changes
-/// nothing in any buffer."
+/// The answer; the input becomes what it is afterwards. Where it is a refusal,
+/// that is what it was before.
 pub fn answer(input: &mut Input, question: &Question) -> Answer {
     let refusal = first_refusal(input.store(), arguments(question));
     match (question, refusal) {
-        // "This call gives no number, and Check tells the reason."
+        // Show has no number to tell: its part is empty instead.
         (Question::Show { .. }, Some(_)) => EMPTY_PART,
         (_, Some(refusal)) => Answer::Refused(refusal),
         (Question::Check, None) => check(input),
@@ -90,6 +100,7 @@ pub fn answer(input: &mut Input, question: &Question) -> Answer {
             },
             None,
         ) => run(input, target, *plan, *budget),
+        (Question::Count { position }, None) => count_root(input, *position),
     }
 }
 
@@ -103,7 +114,7 @@ fn arguments(question: &Question) -> Arguments<'_> {
             inputs: Some(inputs),
             ..none
         },
-        Question::Show { position } => Arguments {
+        Question::Show { position } | Question::Count { position } => Arguments {
             position: Some(*position),
             ..none
         },
@@ -129,8 +140,8 @@ fn read(input: &Input, position: u32, inputs: &[u8]) -> Answer {
     Answer::Value(value(input.store(), root, inputs))
 }
 
-/// "The part is empty exactly for a refused table (1, 2, 4 to 9), no such
-/// root, or a constant root": the first two are refused already.
+/// The part is empty for a constant root too; a refused table and a missing
+/// root have been dealt with.
 fn show(input: &Input, position: u32) -> Answer {
     match input.root_at(position).record() {
         None => EMPTY_PART,
@@ -155,4 +166,10 @@ fn swap_once(input: &mut Input, level: u32) -> Answer {
 fn run(input: &mut Input, target: &[u8], plan: u32, budget: u32) -> Answer {
     let plan = plans::plan(plan).expect("check 13 has passed");
     slice(input, target, plan, budget)
+}
+
+fn count_root(input: &Input, position: u32) -> Answer {
+    let count = count::count(input.store(), input.root_at(position));
+    let share = share_bits(count, input.order.len());
+    Answer::Counted { count, share }
 }

@@ -127,23 +127,53 @@ mod tests {
         orders(last).into_iter().flat_map(with_last).collect()
     }
 
-    /// The other way to tell the plans: among the adjacent inverted pairs, the
-    /// one whose rising variable is the target's highest, the one whose
-    /// sinking variable is its lowest, the lowest pair and the highest pair.
+    /// The other way to tell the plans: each variable is written as its level
+    /// in the target, so that a pair is inverted where these fall. Of the
+    /// falling neighbours the plans choose the one that ends in the smallest,
+    /// the one that begins with the largest, the lowest and the highest.
     #[test]
-    fn each_plan_chooses_among_the_inverted_neighbours() {
+    fn each_plan_chooses_among_the_falling_neighbours() {
         for (order, target) in every_order_and_target() {
-            let pairs = || inverted_neighbours(&order, &target);
-            let rising = |&upper: &usize| level_of(order[upper + 1], &target);
-            let sinking = |&upper: &usize| level_of(order[upper], &target);
+            let mut target_levels = vec![0; target.len()];
+            for (level, &variable) in target.iter().enumerate() {
+                target_levels[usize::from(variable)] = level;
+            }
+            let levels: Vec<usize> = order
+                .iter()
+                .map(|&variable| target_levels[usize::from(variable)])
+                .collect();
+            let falling = || (1..levels.len()).filter(|&lower| levels[lower - 1] > levels[lower]);
             let chosen = [
-                pairs().min_by_key(rising),
-                pairs().max_by_key(sinking),
-                pairs().max(),
-                pairs().min(),
+                falling().min_by_key(|&lower| levels[lower]),
+                falling().max_by_key(|&lower| levels[lower - 1]),
+                falling().max(),
+                falling().min(),
             ];
+            let chosen = chosen.map(|lower| lower.map(|lower| lower - 1));
             let planned = PLANS.map(|plan| (plan.next)(&order, &target));
             assert_eq!(planned, chosen, "{order:?} to {target:?}");
+        }
+    }
+
+    /// Bring Up, Sink Down, Lowest and Highest Inversion, on the way to 0 1 2
+    /// and so on.
+    #[test]
+    fn the_pairs_written_out() {
+        let pairs: [(&[u8], [usize; 4]); 9] = [
+            (&[0, 2, 1], [1, 1, 1, 1]),
+            (&[1, 0, 2], [0, 0, 0, 0]),
+            (&[1, 2, 0], [1, 1, 1, 1]),
+            (&[2, 0, 1], [0, 0, 0, 0]),
+            (&[2, 1, 0], [1, 0, 1, 0]),
+            (&[1, 0, 3, 2], [0, 2, 2, 0]),
+            (&[3, 0, 2, 1], [0, 0, 2, 0]),
+            (&[2, 1, 3, 0], [2, 2, 2, 0]),
+            (&[2, 1, 0, 5, 4, 3], [1, 3, 4, 0]),
+        ];
+        for (order, uppers) in pairs {
+            let target: Vec<u8> = (0..order.len() as u8).collect();
+            let planned = PLANS.map(|plan| (plan.next)(order, &target));
+            assert_eq!(planned, uppers.map(Some), "{order:?}");
         }
     }
 

@@ -12,9 +12,9 @@ pub const NAMES: [&str; 5] = ["trip.nod", "trip.rts", "trip.ord", "trip.tgt", "t
 /// What each of the files holds; none where it is missing.
 pub type Files = [Option<Vec<u8>>; 5];
 
-/// The whole standard output. "A missing file counts as empty; one over its
-/// limit, or an odd length of trip.rts, is refusal 1": the limits are those of
-/// check 1, which a run makes anyway. The plan's file has rules of its own.
+/// The whole standard output. A file that is missing counts as empty. The
+/// limits of the files are those of check 1, which a run makes anyway; only the
+/// plan's file has rules of its own.
 pub fn printed(files: &Files) -> String {
     let [table, roots, order, target, plan] = files.clone();
     let mut input = Input {
@@ -38,7 +38,7 @@ pub fn printed(files: &Files) -> String {
             lines
         }
     };
-    // "Each line ends in a newline."
+    // The last line has a newline too.
     lines.iter().map(|line| format!("{line}\n")).collect()
 }
 
@@ -96,7 +96,7 @@ fn listing(store: Store) -> Vec<String> {
     lines
 }
 
-/// "An empty root list prints `roots` alone."
+/// With no other word the first stands alone, and no space after it.
 fn words(first: &str, rest: impl Iterator<Item = String>) -> String {
     let mut line = first.to_string();
     for word in rest {

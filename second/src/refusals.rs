@@ -1,4 +1,4 @@
-//! "When the relay says no", in plain functions, one for each check.
+//! The refusals, in plain functions, one for each check.
 
 use std::collections::HashSet;
 
@@ -15,7 +15,7 @@ pub struct Refusal {
 }
 
 /// What an operation is given beside the table, its roots and order; none for
-/// "an argument which the operation hasn't got".
+/// an argument that it doesn't have.
 #[derive(Clone, Copy, Default)]
 pub struct Arguments<'a> {
     pub target: Option<&'a [u8]>,
@@ -25,9 +25,8 @@ pub struct Arguments<'a> {
     pub level: Option<u32>,
 }
 
-/// A check gives the place where it says no, or none where it passes. "Checks
-/// that speak of an argument which the operation hasn't got are skipped": with
-/// no such argument they pass.
+/// A check gives the place where it fails, or none where it passes. One that
+/// speaks of an argument passes where the operation doesn't have it.
 type Check = fn(Store, Arguments) -> Option<usize>;
 
 /// In the order in which they are made: that of their numbers, but for 13,
@@ -63,9 +62,8 @@ pub fn first_refusal(store: Store, arguments: Arguments) -> Option<Refusal> {
     })
 }
 
-/// 1: "n outside 1..32, target length not n, table length not a multiple of 8
-/// or over 32,768 bytes, an odd number of root bytes, more than 64 roots". Its
-/// place is 0.
+/// 1: a length is wrong: of the order, which is n, of the target, of the table
+/// or of the roots. Its place is 0.
 fn length_outside(store: Store, arguments: Arguments) -> Option<usize> {
     let outside = store.n() < 1
         || store.n() > MOST_VARIABLES
@@ -79,8 +77,9 @@ fn length_outside(store: Store, arguments: Arguments) -> Option<usize> {
     outside.then_some(0)
 }
 
-/// 2 and 3: order and target; "first position out of range or repeating an
-/// earlier one". Check 1 has passed: each of the two has length n.
+/// 2 and 3: order and target; the first position that is no variable's, or a
+/// variable's for the second time. Check 1 has passed: each of the two has
+/// length n.
 fn not_a_permutation(list: &[u8]) -> Option<usize> {
     (0..list.len()).find(|&position| {
         let variable = list[position];
@@ -88,7 +87,7 @@ fn not_a_permutation(list: &[u8]) -> Option<usize> {
     })
 }
 
-/// 4: "record malformed"; "lowest record".
+/// 4: a record is malformed; the lowest such one.
 fn record_malformed(store: Store) -> Option<usize> {
     store
         .record_numbers()
@@ -96,8 +95,8 @@ fn record_malformed(store: Store) -> Option<usize> {
         .map(place)
 }
 
-/// "Variable n or more and not 255, a zero byte not zero, a free record with a
-/// non-zero rest, or a reference past the table or to a free record."
+/// A free record must be zero but for its first byte; a used one needs a
+/// variable below n, zeros in the bytes that hold nothing, and good references.
 fn is_malformed(store: Store, number: RecordNumber) -> bool {
     let bytes = store.bytes(number);
     if store.is_free(number) {
@@ -110,7 +109,8 @@ fn is_malformed(store: Store, number: RecordNumber) -> bool {
         || is_astray(store, record.high)
 }
 
-/// "Past the table or to a free record." A constant is neither.
+/// Does the reference name a record that there isn't, or a free one? A constant
+/// names none.
 fn is_astray(store: Store, reference: Reference) -> bool {
     match reference.record() {
         None => false,
@@ -118,8 +118,8 @@ fn is_astray(store: Store, reference: Reference) -> bool {
     }
 }
 
-/// 5: "a child record not strictly below its parent in the order"; "lowest
-/// parent". Below means a greater level, since "level 0 is the top".
+/// 5: a child that is a record stands no lower than its parent; the lowest such
+/// parent. Levels are counted from the top, so that a lower one is greater.
 fn child_not_below(store: Store) -> Option<usize> {
     store
         .used()
@@ -139,7 +139,7 @@ fn level(store: Store, record: Record) -> usize {
         .expect("an order that is a permutation holds the variable")
 }
 
-/// 6: "low equals high"; "lowest record".
+/// 6: the two references of a record are equal; the lowest such one.
 fn low_equals_high(store: Store) -> Option<usize> {
     store
         .used()
@@ -147,8 +147,7 @@ fn low_equals_high(store: Store) -> Option<usize> {
         .map(|(number, _)| place(number))
 }
 
-/// 7: "same variable, low and high as an earlier record"; "lowest repeating
-/// record".
+/// 7: a record says what one before it says; the lowest such one.
 fn repeating_record(store: Store) -> Option<usize> {
     let mut earlier = HashSet::new();
     store
@@ -157,12 +156,12 @@ fn repeating_record(store: Store) -> Option<usize> {
         .map(|(number, _)| place(number))
 }
 
-/// 8: "root past the table or to a free record"; "first root position".
+/// 8: a root names no used record and isn't a constant; the first such position.
 fn root_astray(store: Store) -> Option<usize> {
     store.roots().position(|root| is_astray(store, root))
 }
 
-/// 9: "a used record that no root and no used record names"; "lowest record".
+/// 9: a used record is named by nothing; the lowest such one.
 fn idle_record(store: Store) -> Option<usize> {
     let named = store.named();
     store
@@ -176,20 +175,20 @@ fn no_such_plan(number: u32) -> Option<usize> {
     plans::plan(number).is_none().then_some(number as usize)
 }
 
-/// 10: "no such root"; "the position asked for".
+/// 10: there is no root at the position; it is the place.
 fn no_such_root(store: Store, position: u32) -> Option<usize> {
     let position = position as usize;
     (position >= store.roots().count()).then_some(position)
 }
 
-/// 11: "input bytes not n in number, or one not 0 or 1". Its place is 0.
+/// 11: too few or too many inputs, or one that isn't 0 or 1. Its place is 0.
 fn inputs_outside(store: Store, inputs: &[u8]) -> Option<usize> {
     let outside = inputs.len() != store.n() || inputs.iter().any(|&byte| byte != 0 && byte != 1);
     outside.then_some(0)
 }
 
-/// 12: "no such level: the pair asked for isn't in 0..n-2"; "the level". Both
-/// ends are within, so with n = 1 there is no pair at all.
+/// 12: the level has none below it, so that there is no pair to swap; it is the
+/// place. With n = 1 there is no pair at all.
 fn no_such_level(store: Store, level: u32) -> Option<usize> {
     let level = level as usize;
     (level + 1 >= store.n()).then_some(level)

@@ -30,6 +30,8 @@ pub fn cases() -> Vec<Case> {
         refused_reads(),
         refused_swaps(),
         refused_plans(),
+        roots_counted(),
+        refused_counts(),
     ];
     let by_every_plan = of_two_variables
         .into_iter()
@@ -57,6 +59,10 @@ fn show(name: &'static str, input: Input, position: u32, part: [usize; 2]) -> Ca
 
 fn swap(name: &'static str, input: Input, level: u32, answer: Answer, after: Input) -> Case {
     Case::changed(name, input, Question::Swap { level }, answer, after)
+}
+
+fn count(name: &'static str, input: Input, position: u32, answer: Answer) -> Case {
+    Case::unchanged(name, input, Question::Count { position }, answer)
 }
 
 /// Plans are written as their numbers: 0 Bring Up, 1 Sink Down, 2 Lowest
@@ -125,6 +131,11 @@ fn lack(level: usize, needed: usize, free: usize) -> Lack {
     }
 }
 
+fn counted(count: u64, share: f64) -> Answer {
+    let share = share.to_bits();
+    Answer::Counted { count, share }
+}
+
 /// A run without room.
 fn stuck(swaps: u32, left: usize, lack: Lack) -> Answer {
     Answer::Stuck { swaps, left, lack }
@@ -176,8 +187,11 @@ fn case_b() -> Vec<Case> {
     ]
 }
 
+fn c() -> Input {
+    input(&[A_0, A_1, FREE], &[3, 2], &[0, 1])
+}
+
 fn case_c() -> Vec<Case> {
-    let c = || input(&[A_0, A_1, FREE], &[3, 2], &[0, 1]);
     let after = || input(&[A_0, used(1, 0, 4), used(0, 0, 1)], &[3, 2], &[1, 0]);
     vec![
         swap("C swapped", c(), 0, Answer::Made, after()),
@@ -186,9 +200,12 @@ fn case_c() -> Vec<Case> {
     ]
 }
 
+fn d() -> Input {
+    let records = [used(1, 0, 1), used(0, 0, 2), used(0, 0, 1)];
+    input(&records, &[3, 4], &[0, 1])
+}
+
 fn case_d() -> Vec<Case> {
-    let d = [used(1, 0, 1), used(0, 0, 2), used(0, 0, 1)];
-    let d = || input(&d, &[3, 4], &[0, 1]);
     let after = [FREE, used(1, 0, 4), used(0, 0, 1)];
     let after = || input(&after, &[3, 4], &[1, 0]);
     vec![
@@ -197,20 +214,25 @@ fn case_d() -> Vec<Case> {
     ]
 }
 
+fn e(order: &[u8]) -> Input {
+    input(&[used(0, 0, 1), used(1, 0, 1)], &[2, 3], order)
+}
+
 fn case_e() -> Vec<Case> {
-    let e = [used(0, 0, 1), used(1, 0, 1)];
-    let e = |order: &[u8]| input(&e, &[2, 3], order);
     vec![
         swap("E swapped", e(&[0, 1]), 0, Answer::Made, e(&[1, 0])),
         run("E", e(&[0, 1]), (&[1, 0], 1), done(1), e(&[1, 0])),
     ]
 }
 
+fn f() -> Input {
+    let records = [used(1, 0, 1), used(1, 1, 0), used(0, 2, 3), FREE, FREE];
+    input(&records, &[4], &[0, 1])
+}
+
 fn case_f() -> Vec<Case> {
-    let f = [used(1, 0, 1), used(1, 1, 0), used(0, 2, 3), FREE, FREE];
     let fewer = [used(1, 0, 1), used(1, 1, 0), used(0, 2, 3), FREE];
     let after = [FREE, FREE, used(1, 5, 6), used(0, 0, 1), used(0, 1, 0)];
-    let f = || input(&f, &[4], &[0, 1]);
     let fewer = || input(&fewer, &[4], &[0, 1]);
     let after = || input(&after, &[4], &[1, 0]);
     let lack = lack(0, 2, 1);
@@ -359,7 +381,7 @@ fn last_used(roots: usize) -> Input {
     input(&records, &vec![4_097; roots], &[0])
 }
 
-/// Each of the five asked with the longest table and with one record more,
+/// Each of the six asked with the longest table and with one record more,
 /// and with 64 roots and one more.
 fn case_k() -> Vec<Case> {
     let records = |count: usize, order: &[u8]| input(&vec![FREE; count], &[1], order);
@@ -368,7 +390,7 @@ fn case_k() -> Vec<Case> {
     let over = || records(4_097, before);
     let many = || roots(65, before);
     let no = refused(1, 0);
-    let (one, made) = (Answer::Value(1), Answer::Made);
+    let (one, made, all_of_4) = (Answer::Value(1), Answer::Made, counted(4, 1.0));
     let there = || records(4_096, after);
     vec![
         check("K, 32,768 bytes", records(4_096, before), accepted(0)),
@@ -403,6 +425,11 @@ fn case_k() -> Vec<Case> {
             roots(64, after),
         ),
         run("K, 65 roots", many(), (after, 1), no, many()),
+        count("K, 32,768 bytes", records(4_096, before), 0, all_of_4),
+        count("K, 32,776 bytes", over(), 0, no),
+        count("K, 64 roots", roots(64, before), 63, all_of_4),
+        count("K, 65 roots", many(), 63, no),
+        count("K, the last record", last_used(64), 63, counted(1, 0.5)),
     ]
 }
 
@@ -606,5 +633,59 @@ fn refused_plan(plan: u32) -> Vec<Case> {
         row("7 and 13", repeating, to, refused(7, 1)),
         row("8 and 13", input(&[], &[2], order), to, refused(8, 0)),
         row("9 and 13", input(&[A_0], &[], order), to, refused(9, 0)),
+    ]
+}
+
+/// A is variable 0 and variable 1: 1 under one of the four combinations. The
+/// second roots of C and D, and both of E's, are a variable alone: under two. F
+/// is 1 where its inputs differ: under two. The chain's root at level k is 1
+/// where that level's input and all below it are 1: under 2^k.
+fn roots_counted() -> Vec<Case> {
+    let (one_of_4, two_of_4) = (counted(1, 0.25), counted(2, 0.5));
+    let constants = || input(&[A_0, A_1, FREE], &[0, 3, 1], &[0, 1]);
+    vec![
+        count("A counted", a(), 0, one_of_4),
+        count("A afterwards, counted", a_after(), 0, one_of_4),
+        count("B counted", b(), 0, one_of_4),
+        count("C counted", c(), 0, one_of_4),
+        count("C, second root", c(), 1, two_of_4),
+        count("D counted", d(), 0, one_of_4),
+        count("D, second root", d(), 1, two_of_4),
+        count("E counted", e(&[0, 1]), 0, two_of_4),
+        count("E, second root, turned", e(&[1, 0]), 1, two_of_4),
+        count("F counted", f(), 0, two_of_4),
+        count("root false", constants(), 0, counted(0, 0.0)),
+        count("a record between them", constants(), 1, one_of_4),
+        count("root true", constants(), 2, counted(4, 1.0)),
+        count("six, level 0", chain(), 0, counted(1, 0.015_625)),
+        count("six, level 1", chain(), 1, counted(2, 0.031_25)),
+        count("six, level 5", chain(), 5, counted(32, 0.5)),
+    ]
+}
+
+fn refused_counts() -> Vec<Case> {
+    let far = LARGEST as usize;
+    let malformed = input(&[with(A_0, 1, 1), A_1], &[3], &[0, 1]);
+    let equal = input(&[used(0, 1, 1)], &[2], &[0, 1]);
+    let repeating = input(&[A_0, A_0], &[2, 3], &[0, 1]);
+    vec![
+        count("no root 1", a(), 1, refused(10, 1)),
+        count("no root 256", a(), 256, refused(10, 256)),
+        count("no root 65,536", a(), 65_536, refused(10, 65_536)),
+        count("by far", a(), LARGEST, refused(10, far)),
+        count("G, no roots", alone(&[0, 1, 2]), 0, refused(10, 0)),
+        count("no order", input(&[], &[1], &[]), 0, refused(1, 0)),
+        count("2 and 10", alone(&[0, 0]), 0, refused(2, 1)),
+        count("4 and 10", malformed, 1, refused(4, 0)),
+        count(
+            "5 and 10",
+            input(&[A_0, A_1], &[3], &[1, 0]),
+            1,
+            refused(5, 1),
+        ),
+        count("6 and 10", equal, 1, refused(6, 0)),
+        count("7 and 10", repeating, 2, refused(7, 1)),
+        count("8 and 10", input(&[], &[2], &[0, 1]), 1, refused(8, 0)),
+        count("9 and 10", input(&[A_0], &[], &[0, 1]), 0, refused(9, 0)),
     ]
 }

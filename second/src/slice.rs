@@ -1,4 +1,4 @@
-//! "One slice": planned swaps, as far as a budget goes.
+//! A slice: planned swaps, as far as a budget goes.
 
 use crate::input::Input;
 use crate::model::Answer;
@@ -7,8 +7,8 @@ use crate::swap::swap;
 
 /// One slice of an accepted input towards a target that is a permutation.
 ///
-/// "The answer is then judged on the state left, in this order": done, no
-/// room, paused. So the next swap is tried even where the budget is spent.
+/// Done goes before no room, and that before paused, whatever the budget: so the
+/// next swap is tried even where it is spent.
 pub fn slice(input: &mut Input, target: &[u8], plan: &Plan, budget: u32) -> Answer {
     let mut swaps = 0;
     loop {

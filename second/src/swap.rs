@@ -1,4 +1,4 @@
-//! "One swap", its steps in the order of the rules.
+//! One swap, its steps in the order of docs/RULES.md, 4.
 
 use std::collections::HashMap;
 
@@ -9,13 +9,13 @@ use crate::layout::{Record, RecordNumber, Reference, Store, Variable};
 pub struct Swap {
     pub after: Input,
     pub crossing: usize,
-    /// The number of new records in step 2.
+    /// The number of new records.
     pub needed: usize,
-    /// The number of records that became free in step 3.
+    /// The number of records that died.
     pub freed: usize,
 }
 
-/// "No room (level k, needed, free)".
+/// What stands in the way where there is no room.
 #[derive(Clone, Copy, Debug, PartialEq, Eq)]
 pub struct Lack {
     pub level: usize,
@@ -34,7 +34,7 @@ pub fn swap(before: &Input, k: usize) -> Result<Swap, Lack> {
     let crossing = pair.crossing_records();
     let mut lower = Lower::with_those_that_stay(pair);
 
-    // Step 1, with step 2 inside X.
+    // What the crossing records become; new records are made inside X.
     let mut rewritten = Vec::new();
     for &(number, record) in &crossing {
         let [f00, f01] = pair.grandchildren(record.low);
@@ -49,7 +49,7 @@ pub fn swap(before: &Input, k: usize) -> Result<Swap, Lack> {
         rewritten.push((number, rewritten_as));
     }
 
-    // "No room is given exactly when needed is above free."
+    // Is there room?
     let needed = lower.made.len();
     let free = lower.free.len();
     if needed > free {
@@ -64,13 +64,13 @@ pub fn swap(before: &Input, k: usize) -> Result<Swap, Lack> {
         after.set_record(number, record);
     }
 
-    // Step 3.
+    // What dies.
     let dead = no_longer_named(&pair.y_records(), after.store());
     for &number in &dead {
         after.set_free(number);
     }
 
-    // Step 4.
+    // The order.
     after.order.swap(k, k + 1);
     Ok(Swap {
         after,
@@ -80,8 +80,8 @@ pub fn swap(before: &Input, k: usize) -> Result<Swap, Lack> {
     })
 }
 
-/// "Let x be the variable at level k and y the one at k+1", in the store
-/// before the swap.
+/// The variables of the two levels, x that of the upper one, in the store before
+/// the swap.
 #[derive(Clone, Copy)]
 struct Pair<'a> {
     store: Store<'a>,
@@ -90,7 +90,7 @@ struct Pair<'a> {
 }
 
 impl Pair<'_> {
-    /// "In rising record number."
+    /// From the lowest record number upwards.
     fn crossing_records(self) -> Vec<(RecordNumber, Record)> {
         self.store
             .used()
@@ -98,7 +98,7 @@ impl Pair<'_> {
             .collect()
     }
 
-    /// "An x record crosses if at least one child is a y record."
+    /// Is it a record of x with a record of y as a child, or with two?
     fn crosses(self, record: Record) -> bool {
         record.variable == self.x
             && record
@@ -113,9 +113,8 @@ impl Pair<'_> {
         (record.variable == self.y).then_some(record)
     }
 
-    /// The two grandchildren by way of a child, "first digit by x, second by
-    /// y; a child that isn't a y record counts as both of its own
-    /// grandchildren".
+    /// The two grandchildren by way of a child, y's low one first: the child
+    /// itself, twice, where it is no record of y.
     fn grandchildren(self, child: Reference) -> [Reference; 2] {
         match self.y_record(child) {
             Some(record) => [record.low, record.high],
@@ -143,7 +142,7 @@ struct Lower {
 }
 
 impl Lower {
-    /// "Others stay as they are": the x records that do not cross.
+    /// The records of x that don't cross stay as they are.
     fn with_those_that_stay(pair: Pair) -> Lower {
         let known = pair
             .store
@@ -160,9 +159,8 @@ impl Lower {
         }
     }
 
-    /// "X(a, b) is a where a equals b; otherwise the x record with low a and
-    /// high b, if a non-crossing one or one made in this swap exists;
-    /// otherwise a new one in the lowest-numbered free record."
+    /// X(a, b): where a and b differ it is the record of x with these two as
+    /// children, and only one that isn't known is made, in the next free record.
     fn x(&mut self, a: Reference, b: Reference) -> Reference {
         if a == b {
             return a;
@@ -193,7 +191,7 @@ impl Lower {
     }
 }
 
-/// "Each y record from before that no root and no record names any more."
+/// The old records of y that nothing names after the swap.
 fn no_longer_named(y_records: &[RecordNumber], after: Store) -> Vec<RecordNumber> {
     let named = after.named();
     let mut dead = y_records.to_vec();

@@ -2,9 +2,9 @@
 
 use crate::layout::{Reference, Store};
 
-/// "A constant is itself; a record takes its low reference where its
-/// variable's input is 0 and its high one where it is 1." Byte v of the
-/// inputs is for variable v. The table is an accepted one.
+/// Down to a constant, at each record by way of the reference that the input of
+/// its variable chooses. Byte v of the inputs is for variable v. The table is
+/// an accepted one.
 pub fn value(store: Store, reference: Reference, inputs: &[u8]) -> u8 {
     let Some(number) = reference.record() else {
         return reference.0 as u8;

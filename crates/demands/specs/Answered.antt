@@ -21,9 +21,9 @@ use Rattle.checks.specs.declared.Refusal.{Refusal}
 use Rattle.checks.specs.declared.CheckAnswer.{CheckAnswer}
 use Rattle.checks.specs.declared.CheckAnswer.the-variants as checked
 use Rattle.reading.specs.Read.{readStages, readOf, ReadOutcome}
-use Rattle.reading.specs.Show.{noPart, partAt, partOf, ShowOutcome}
-use Rattle.reading.specs.Parts as show
-use Rattle.reading.specs.Parts.{Nothing, Something, Lent}
+use Rattle.showing.specs.Show.{noPart, partAt, partOf, ShowOutcome}
+use Rattle.showing.specs.Parts as show
+use Rattle.showing.specs.Parts.{Nothing, Something, Lent}
 use Rattle.reading.specs.Theorems as read
 use Rattle.reading.specs.Theorems.{Reads}
 use Rattle.reading.specs.declared.ReadAnswer.{ReadAnswer}

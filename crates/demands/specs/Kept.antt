@@ -25,7 +25,8 @@ use Rattle.swaps.specs.declared.SwapAnswer.the-variants.{Made}
 use Rattle.slices.specs.OneSwap.{plainSwap}
 use Rattle.slices.specs.Run.{runOf}
 use Rattle.demands.specs.Exactly.{Exactly}
-use Rattle.demands.specs.SameRead as same
+use Rattle.demands.specs.Moved.{moved-same, swap-moved, run-moved}
+use Rattle.demands.specs.SameRead.{read-same}
 
 module _ (t r o : List ℕ) where
   -- accepted, with c used records, exactly for a table that can be used and has so many. `Usable`: right sizes, an order that is a permutation, zeros
@@ -75,9 +76,10 @@ module _ (t r o : List ℕ) where
 
   -- any swap, made or not, of any bytes
   pub swap-reads : (k position : ℕ) (inputs : List ℕ) → readOf (swapOf t r o k .table) r (swapOf t r o k .order) position inputs ≡ readOf t r o position inputs
-  swap-reads k position inputs = same.swap-reads t r o k position inputs
+  swap-reads k position inputs = moved-same (λ t′ o′. readOf t′ r o′ position inputs) (λ a. read-same a position inputs) (swap-moved t r o k)
 
   -- any run, by the plan with any number, of any bytes
   pub run-reads : (plan : ℕ) (g : List ℕ) (budget position : ℕ) (inputs : List ℕ)
       → readOf (runOf plainSwap plan t r o g budget .table) r (runOf plainSwap plan t r o g budget .order) position inputs ≡ readOf t r o position inputs
-  run-reads plan g budget position inputs = same.run-reads plan t r o g budget position inputs
+  run-reads plan g budget position inputs =
+      moved-same (λ t′ o′. readOf t′ r o′ position inputs) (λ a. read-same a position inputs) (run-moved plan t r o g budget)

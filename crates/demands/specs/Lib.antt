@@ -1,5 +1,9 @@
 pub mod Exactly
 pub mod Answered
+pub mod Moved
 pub mod SameRead
+pub mod SameCount
+pub mod Operations
 pub mod Kept
+pub mod Counted
 pub mod Sliced

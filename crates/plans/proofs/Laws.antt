@@ -65,22 +65,31 @@ module _ {o g : Order} {n : ℕ} (h : Arranged o n) (i : Arranged g n) where
     abbrev differ : bytesOf o n ≡ bytesOf g n → ⊥
     differ = arranged-differ h i d
 
+    -- the level that a search finds is one of the n, where it finds one in orders that differ
+    module _ (find : (ℕ → Bool) → ℕ → ℕ) (inside : find (differsAt (bytesOf o n) (bytesOf g n)) (length (bytesOf o n)) < length (bytesOf o n)) {k : ℕ}
+        (is : find (differsAt (bytesOf o n) (bytesOf g n)) (length (bytesOf o n)) ≡ k) where
+      found-in : k < n
+      found-in = omega (arith, arranged-length h)
+
+      found-fits : k < ceiling
+      found-fits = omega (arith, found-in, h .few)
+
     module _ {k : ℕ} (e : k ≡ first (differsAt (o .variables) (g .variables)) n) where
       first-is : firstDifference (bytesOf o n) (bytesOf g n) ≡ k
       unfolding firstDifference
       first-is = found-is first first-agrees o g n h e
 
-      first-in : k < n
-      first-in =
-          let l = difference-inside (bytesOf o n) (bytesOf g n) (h .permutation) (i .permutation) (arranged-same-length h i) differ in
-          omega (arith, arranged-length h, first-is)
+      first-inside : firstDifference (bytesOf o n) (bytesOf g n) < length (bytesOf o n)
+      first-inside = difference-inside (bytesOf o n) (bytesOf g n) (h .permutation) (i .permutation) (arranged-same-length h i) differ
 
       pub first-fits : k < ceiling
-      first-fits = omega (arith, first-in, h .few)
+      unfolding firstDifference
+      first-fits = found-fits first first-inside first-is
 
       module _ {v p : ℕ} (f : v ≡ getD (g .variables) k 0) (q : p ≡ levelIn (o .levels) n v) where
         brought : levelOf (bytesOf o n) (getD (bytesOf g n) (firstDifference (bytesOf o n) (bytesOf g n)) 0) ≡ p
-        brought = rw first-is (level-is first-in f q)
+        unfolding firstDifference
+        brought = rw first-is (level-is (found-in first first-inside first-is) f q)
 
         pub below-top : 1 ≤ p
         below-top =
@@ -95,22 +104,23 @@ module _ {o g : Order} {n : ℕ} (h : Arranged o n) (i : Arranged g n) where
       unfolding lastDifference
       last-is = found-is last last-agrees o g n h e
 
-      last-in : k < n
-      last-in =
-          let l = last-inside (bytesOf o n) (bytesOf g n) (h .permutation) (i .permutation) (arranged-same-length h i) differ in
-          omega (arith, arranged-length h, last-is)
+      last-in-order : lastDifference (bytesOf o n) (bytesOf g n) < length (bytesOf o n)
+      last-in-order = last-inside (bytesOf o n) (bytesOf g n) (h .permutation) (i .permutation) (arranged-same-length h i) differ
 
       pub last-fits : k < ceiling
-      last-fits = omega (arith, last-in, h .few)
+      unfolding lastDifference
+      last-fits = found-fits last last-in-order last-is
 
       pub sink-down-returns : {v p : ℕ} → v ≡ getD (g .variables) k 0 → p ≡ levelIn (o .levels) n v → p ≡ sinkDown (bytesOf o n) (bytesOf g n)
-      unfolding sinkDown
-      sink-down-returns f q = rw last-is (sym (level-is last-in f q))
+      unfolding sinkDown lastDifference
+      sink-down-returns f q = rw last-is (sym (level-is (found-in last last-in-order last-is) f q))
 
 -- `search bringing` answers every need of `bring_up`, `search sinking` every one of `sink_down`
-pub ruleset bringing = (first-fits, below-top, bring-up-returns, needs)
+pub ruleset fitting = (first-fits, last-fits, needs)
 
-pub ruleset sinking = (last-fits, sink-down-returns, needs)
+pub ruleset bringing = (fitting, below-top, bring-up-returns)
+
+pub ruleset sinking = (fitting, sink-down-returns)
 
 -- ---- Lowest and Highest Inversion: there are pairs of levels, and the search goes through all of them
 

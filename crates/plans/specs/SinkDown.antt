@@ -73,7 +73,9 @@ module _ (o g : List ℕ) (h : Permutation o) (i : Permutation g) (e : length o 
 
   sinks-down : Adjacent o g (sinkDown o g)
   unfolding sinkDown
-  sinks-down = record { within = omega (arith, p-above, last-inside); inversion = rw (target-level h i e below-settled) below-above }
+  sinks-down =
+      let turned : levelOf g (getD o (p + 1) 0) < levelOf g (getD o p 0) = rw (target-level h i e below-settled) below-above in
+      record { within = omega (arith, p-above, last-inside); inversion = turned }
 
 pub sink-down-lawful : Lawful sinkDown
 sink-down-lawful = record { names-inversion = sinks-down }

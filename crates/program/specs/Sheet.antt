@@ -5,7 +5,7 @@ use mathlib.Core.Path.{_≡_, refl}
 use Rattle.lists.specs.First.{first}
 use Rattle.checks.specs.Stages.{refusal}
 use Rattle.swaps.specs.Outcome.{lack}
-use Rattle.slices.specs.declared.RunAnswer.the-variants.{NoRoom, Refused}
+use Rattle.slices.specs.declared.RunAnswer.the-variants.{Done, NoRoom, Refused}
 use Rattle.sheet.specs.Sheet.{outcome}
 use Rattle.job.specs.Job.{jobOf}
 use Rattle.texts.specs.Text.{bytes, places, decimal, numbered, inTurn}
@@ -34,6 +34,11 @@ case-A : programText nod rts ord tgt pln ≡ bytes "plan 0\ndone swaps 1 left 0\
 unfolding nod rts ord tgt pln outcome first places decimal numbered inTurn variableText orderLine fieldsText contentText recordLine rootText rootsLine
     listing swapsText answerText answerLine planLine planText storeText printed jobOf programText
 case-A = refl
+
+-- the line of another plan
+plan-2 : planText (Done 1 0) 2 ≡ bytes "plan 2\n"
+unfolding first places decimal numbered planLine planText
+plan-2 = refl
 
 -- a number that no plan has, and a file that isn't one byte
 no-plan : programText nod rts ord tgt (200 ∷ []) ≡ bytes "refused 13 place 200\n"

@@ -20,7 +20,7 @@ use Rattle.program.specs.Program.{mostText, Held}
 
 plan-short : (a : RunAnswer) (plan : ℕ) → Short (planText a plan) 27
 unfolding planText planLine
-plan-short a plan = either-short (isRefused a) (short zero-le) (both-short (numbered-any (bytes "plan ") plan) (word-short (bytes "\n")))
+plan-short a plan = either-short (isRefused a) (short zero-le) (both-short (numbered-any (bytes "plan ") _) (word-short (bytes "\n")))
 
 -- ---- the line of the answer, without its end: at most 146 bytes
 

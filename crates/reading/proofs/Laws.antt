@@ -5,7 +5,6 @@ use mathlib.Core.List.{List, [], _∷_}
 use mathlib.Core.Path.{_≡_, refl, ap, sym, _∙_}
 use native.Mathlib.Numerals.{sub-one}
 use native.Mathlib.Omega.{arith}
-use borrow.Author.Needs.{needs}
 use borrow.Author.Tests.{eqb-true, eqb-false, le-leb, lt-leb, ltb-true}
 use lib.Dec.{eqb, ltb}
 use lib.ListN.{length, List·getD-eq-default}
@@ -26,7 +25,6 @@ use Rattle.checks.specs.declared.Refusal.{Refusal}
 use Rattle.checks.specs.declared.Verdict.{Verdict}
 use Rattle.checks.specs.declared.Verdict.the-variants as verdict
 use Rattle.reading.specs.Read.{inputOf, noRoot, badInputs, readStages, rootValue, readAfter, readOf, ReadOutcome}
-use Rattle.reading.specs.Parts.{refused-part, no-root-part, constant-part, record-part, root-inside, record-ends}
 use Rattle.reading.specs.declared.ReadAnswer.{ReadAnswer}
 use Rattle.reading.specs.declared.ReadAnswer.the-variants.{Value, Refused}
 
@@ -128,7 +126,3 @@ module _ (t r o : List ℕ) (position : ℕ) (inputs : List ℕ) {v : Verdict} (
       read-value h is says e = rw (e, says, is) (by-11 (place-passes 11 0 (badInputs o inputs) b _ _ flag h refl))
 
 pub ruleset reading = (read-refused, read-no-root, read-bad-inputs, read-value)
-
--- ---- what Show hands back
-
-pub ruleset showing = (refused-part, no-root-part, constant-part, record-part, root-inside, record-ends, needs)

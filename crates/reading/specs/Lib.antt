@@ -1,4 +1,2 @@
 pub mod Read
-pub mod Show
-pub mod Parts
 pub mod Theorems

@@ -1,6 +1,6 @@
 -- What Read answers, and when.
 use Prim.Native.Nat.{ℕ, _≤_, _<_}
-use mathlib.Core.Bool.{Bool, true, false}
+use mathlib.Core.Bool.{Bool, false}
 use mathlib.Core.List.{List, [], _∷_}
 use mathlib.Core.Logic.{_⊎_, inl, inr, ⊎-elim}
 use mathlib.Core.Path.{_≡_, refl, ap, sym, _∙_}
@@ -9,7 +9,8 @@ use native.Mathlib.Omega.{arith}
 use borrow.Author.Tests.{leb-false}
 use lib.ListN.{length, getD}
 use Rattle.lists.specs.Apart.{apart}
-use Rattle.lists.specs.Count.{bit}
+use Rattle.lists.specs.Combinations.{Combination}
+use Rattle.lists.specs.Count.{bit, bit-same}
 use Rattle.lists.specs.Says.{Says, Some, says, says-eqb, refutes, denies, stable, either-side}
 use Rattle.diagrams.specs.Layout.{mostRecords, rootCount, rootAt}
 use Rattle.diagrams.specs.Node.{Constant, at}
@@ -23,7 +24,7 @@ use Rattle.checks.specs.Stages.{refusal, stageAt, verdictOf, AllPass, FailsFirs
 use Rattle.checks.specs.Stages.{clear-if, clear-only, refused-if, refused-only, row-passes}
 use Rattle.checks.specs.Check.{checkStages}
 use Rattle.checks.specs.Theorems.{Bounded, refusal-small}
-use Rattle.checks.specs.Usable.{Usable, usable-if, usable-then, all-pass, passes-all, root-among}
+use Rattle.checks.specs.Usable.{Usable, usable-if, passes-all, root-among, usable-clear}
 use Rattle.checks.specs.declared.Refusal.{Refusal}
 use Rattle.checks.specs.declared.Verdict.{Verdict}
 use Rattle.checks.specs.declared.Verdict.the-variants as verdict
@@ -41,9 +42,8 @@ unfolding badInputs noInput
 bad-inputs-says o inputs = search says
 
 -- n input bytes, each of them 0 or 1
-pub record GoodInputs (o inputs : List ℕ) : Type 0 where
-  pub number : length inputs ≡ length o
-  pub bits : (k : ℕ) → k < length inputs → getD inputs k 0 ≤ 1
+abbrev pub GoodInputs : List ℕ → List ℕ → Type 0
+GoodInputs o inputs = Combination (length o) inputs
 
 pub good-inputs-if : (o inputs : List ℕ) → badInputs o inputs ≡ false → GoodInputs o inputs
 good-inputs-if o inputs e =
@@ -60,7 +60,7 @@ good-inputs-then o inputs g =
 -- ---- in a table that the relay can use, the reading of a root meets a constant, for every combination of inputs
 
 module _ (t r o : List ℕ) (usable : Usable t r o) (position : ℕ) (there : position < rootCount r) where
-  root-vertex : Vertex Constant (lookup t) (rootAt r position)
+  pub root-vertex : Vertex Constant (lookup t) (rootAt r position)
   root-vertex = usable .bryant .graph .rooted (rootAt r position) (root-among r position there)
 
   pub meets-constant : (inputs : ℕ → Bool) → Constant (met (lookup t) inputs (length o) (rootAt r position))
@@ -78,25 +78,24 @@ pub record Reads (t r o : List ℕ) (position : ℕ) (inputs : List ℕ) (b : Bo
   pub good : GoodInputs o inputs
   pub value : Value (lookup t) (inputOf inputs) (rootAt r position) b
 
-bit-same : (a b : Bool) → bit a ≡ bit b → a ≡ b
-bit-same true true e = refl
-bit-same true false e = apart (sym e)
-bit-same false true e = apart e
-bit-same false false e = refl
-
 module _ (t r o : List ℕ) (position : ℕ) (inputs : List ℕ) where
-  -- the root's value is the one that Read computes
-  computed : {b : Bool} → Reads t r o position inputs b → rootValue t r o position inputs ≡ b
+  -- what Read computes is the root's value
+  pub value-reads : Usable t r o → position < rootCount r → GoodInputs o inputs → Reads t r o position inputs (rootValue t r o position inputs)
+  unfolding rootValue
+  value-reads u b g = record { usable = u; there = b; good = g; value = root-value t r o u position b (inputOf inputs) }
+
+  -- and the root's value is what Read computes
+  pub computed : {b : Bool} → Reads t r o position inputs b → rootValue t r o position inputs ≡ b
   unfolding rootValue
   computed w = value-unique (look-ends (at (decode t))) (root-value t r o (w .usable) position (w .there) (inputOf inputs)) (w .value)
 
   read-clear : {b : Bool} → Reads t r o position inputs b → verdictOf (readStages t r o position inputs) ≡ verdict.Clear
   unfolding readStages
   read-clear w =
-      let checks = clear-if (checkStages t r o) (all-pass t r o (usable-then t r o (w .usable))) in
       let no-root = denies (no-root-says r position) (not-le-of-lt (w .there)) in
       let bad = good-inputs-then o inputs (w .good) in
-      sym (row-passes (checkStages t r o) _ (sym checks) refl (sym (clear-if _ (also (only-passed position no-root) (also (only-passed 0 bad) none)))))
+      let own = clear-if _ (also (only-passed position no-root) (also (only-passed 0 bad) none)) in
+      sym (row-passes (checkStages t r o) _ (sym (usable-clear t r o (w .usable))) refl (sym own))
 
   pub reads-if : {b : Bool} → Reads t r o position inputs b → readOf t r o position inputs ≡ reading.Value (bit b)
   unfolding readOf
@@ -108,20 +107,14 @@ module _ (t r o : List ℕ) (position : ℕ) (inputs : List ℕ) where
   value-clear (verdict.Refused w) d e = apart (cc)
 
   clear-reads : verdictOf (readStages t r o position inputs) ≡ verdict.Clear → Reads t r o position inputs (rootValue t r o position inputs)
-  unfolding readStages rootValue
+  unfolding readStages
   clear-reads e = go (both-rows (checkStages t r o) _ (clear-only _ e))
     where
       go : AllPass (checkStages t r o) × AllPass (stageAt 10 position (noRoot r position) ∷ stageAt 11 0 (badInputs o inputs) ∷ [])
-          → Reads t r o position inputs (value (lookup t) (inputOf inputs) (length o) (rootAt r position))
+          → Reads t r o position inputs (rootValue t r o position inputs)
       go (checks, also root (also good none)) =
-          let usable : Usable t r o = usable-if t r o (passes-all t r o checks) in
-          let there : position < rootCount r = leb-false (rootCount r) position (passed-only position root) in
-          record {
-            usable = usable;
-            there = there;
-            good = good-inputs-if o inputs (passed-only 0 good);
-            value = root-value t r o usable position there (inputOf inputs);
-          }
+          value-reads (usable-if t r o (passes-all t r o checks)) (leb-false (rootCount r) position (passed-only position root))
+          (good-inputs-if o inputs (passed-only 0 good))
 
   -- a value is 0 or 1
   pub reads-bit : {n : ℕ} → readOf t r o position inputs ≡ reading.Value n → (b : Bool) × (n ≡ bit b) × Reads t r o position inputs b

@@ -1,4 +1,4 @@
-// Read the value of a root under inputs, and show a root's record.
+// Read: the value of a root under inputs.
 ghost use mathlib.Core.Path.{_≡_};
 ghost use Prim.Native.Nat.{_<_};
 ghost use lib.ListN.{length};
@@ -6,10 +6,8 @@ ghost use Rattle.lists.specs.First.{first};
 ghost use Rattle.diagrams.specs.Lookup.{lookup};
 ghost use Rattle.diagrams.specs.Value.{chosen, value};
 ghost use Rattle.reading.specs.Read.{inputOf, noInput, badInputs, ReadOutcome};
-ghost use Rattle.reading.specs.Show.{PartOutcome, ShowOutcome};
 use checks::Refusal;
 use checks::Verdict;
-use diagrams::RECORD_SIZE;
 use diagrams::Reference;
 use diagrams::Variable;
 
@@ -18,9 +16,6 @@ pub enum ReadAnswer {
     Value(u8),
     Refused(Refusal),
 }
-
-// Where a part of the table begins and ends.
-pub struct Part(pub usize, pub usize);
 
 // ---- the value of a reference
 
@@ -93,7 +88,7 @@ fn bad_inputs(order: &[u8], inputs: &[u8]) -> bool
     !(inputs.len() == order.len()) | (first_no_input(inputs) < inputs.len())
 }
 
-// ---- the entries
+// ---- the entry
 
 pub fn read(table: &[u8], roots: &[u8], order: &[u8], position: usize, inputs: &[u8]) -> ReadAnswer
     ensures { λ a. ⌜ ReadOutcome (now (table .entry)) (now (roots .entry)) (now (order .entry)) position (now (inputs .entry)) a ⌝ }
@@ -116,32 +111,4 @@ pub fn read(table: &[u8], roots: &[u8], order: &[u8], position: usize, inputs: &
     }
     let root = diagrams::root(roots, position);
     ReadAnswer::Value(diagrams::one(reads_true(table, inputs, root, order.len())) as u8)
-}
-
-// Where the record of a root lies in the table; 0 to 0 where there is nothing to show.
-pub fn shown_part(table: &[u8], roots: &[u8], order: &[u8], position: usize) -> Part
-    ensures { λ p. ⌜ PartOutcome (now (table .entry)) (now (roots .entry)) (now (order .entry)) position p ⌝ }
-{
-    let verdict = checks::verdict_of_all(table, roots, order);
-    if let Verdict::Refused(_) = verdict {
-        return Part(0, 0);
-    }
-    if diagrams::count_roots(roots) <= position {
-        return Part(0, 0);
-    }
-    let root = diagrams::root(roots, position);
-    if root.is_constant() {
-        return Part(0, 0);
-    }
-    let at = root.record().offset(table);
-    Part(at, at + RECORD_SIZE)
-}
-
-pub fn show<'a>(table: &'a [u8], roots: &[u8], order: &[u8], position: usize) -> &'a [u8]
-    ensures { λ s. ⌜ ShowOutcome (now (table .entry)) (now (roots .entry)) (now (order .entry)) position (table .entry .ptr) (s .ptr) (now s) ⌝ }
-{
-    let p = shown_part(table, roots, order, position);
-    let from = p.0;
-    let to = p.1;
-    &table[from..to]
 }

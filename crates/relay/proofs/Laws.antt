@@ -1,26 +1,31 @@
--- Laws of writing an answer, over plain variables.
+-- Laws of telling an answer, over plain variables.
 use Prim.Native.Nat.{ℕ, _-_, _≤_, _<_}
-use mathlib.Core.List.{List, _++_}
+use mathlib.Core.Bool.{Bool, true, false, _||_}
+use mathlib.Core.List.{List, [], _∷_}
 use mathlib.Core.Path.{_≡_, ap, sym, _∙_}
 use native.Mathlib.Omega.{arith}
-use borrow.Author.Tests.{lt-ltb, le-ltb}
-use lib.ListN.{length, getD, drop}
-use lib.Seq.{take-length}
-use Rattle.lists.specs.Below.{below-at}
-use Rattle.lists.specs.Copy.{copied, copied-first}
-use Rattle.lists.specs.Fold.{fold, Steps, steps-end}
+use borrow.Author.Needs.{needs}
+use borrow.Author.Tests.{lt-ltb, le-ltb, ltb-false}
+use lib.Dec.{ltb}
+use lib.Ieee.{Float}
+use lib.ListN.{length, set}
+use Rattle.lists.specs.Truth.{or-neither}
 use Rattle.checks.specs.Check.{CheckOutcome}
 use Rattle.checks.specs.Theorems.{used-small, check-place-small}
 use Rattle.checks.specs.declared.Refusal.{Refusal}
 use Rattle.checks.specs.declared.CheckAnswer.{CheckAnswer}
 use Rattle.checks.specs.declared.CheckAnswer.the-variants as check
 use Rattle.reading.specs.Read.{ReadOutcome}
-use Rattle.reading.specs.Show.{partOf}
-use Rattle.reading.specs.Parts.{part-small}
+use Rattle.showing.specs.Show.{partOf}
+use Rattle.showing.specs.Parts.{part-small}
 use Rattle.reading.specs.Theorems.{read-place-small}
-use Rattle.reading.specs.declared.Part.{Part}
+use Rattle.showing.specs.declared.Part.{Part}
 use Rattle.reading.specs.declared.ReadAnswer.{ReadAnswer}
 use Rattle.reading.specs.declared.ReadAnswer.the-variants as reading
+use Rattle.counting.specs.Count.{CountOutcome}
+use Rattle.counting.specs.Theorems.{count-place-small}
+use Rattle.counting.specs.declared.CountAnswer.{CountAnswer}
+use Rattle.counting.specs.declared.CountAnswer.the-variants as counting
 use Rattle.swaps.specs.Outcome as swap
 use Rattle.swaps.specs.Outcome.{SwapOutcome}
 use Rattle.swaps.specs.declared.SwapAnswer.{SwapAnswer}
@@ -28,26 +33,11 @@ use Rattle.slices.specs.OneSwap.{plainSwap}
 use Rattle.slices.specs.Run as run
 use Rattle.slices.specs.Run.{RunOutcome}
 use Rattle.slices.specs.declared.RunAnswer.{RunAnswer}
-use Rattle.relay.specs.Written.{Written, wrote, written, told}
-use Rattle.relay.specs.Told.{toldSwap, toldRun, SwapTold, RunTold}
-use Rattle.relay.specs.Fits.{limit, Fits, swap-fits, run-fits}
+use Rattle.relay_numbers.specs.Written.{Written, wrote, written, told}
+use Rattle.relay.specs.Told.{toldCount, toldSwap, toldRun, CountTold, SwapTold, RunTold}
+use Rattle.relay_numbers.specs.Fits.{limit, Fits, swap-fits, run-fits}
 
-pub too-short : (numbers list : List ℕ) → length list < length numbers → wrote 0 list ≡ written list numbers
-unfolding written
-too-short numbers list h = rw (lt-ltb (length list) (length numbers) h)
-
-pub written-all : (numbers list : List ℕ) {m i : ℕ} {l : List ℕ} → Steps (copied numbers) list m i l → m ≤ i → m ≡ length numbers → m ≤ length list
-    → wrote m l ≡ written list numbers
-unfolding written
-written-all numbers list {m} {i} {l} s e p h =
-    let q : l ≡ numbers ++ drop (length numbers) list =
-    steps-end s e
-    ∙ ap (fold (copied numbers) list) p
-    ∙ copied-first numbers list (length numbers) (omega arith) (omega arith)
-    ∙ rw (take-length numbers) in
-    rw (le-ltb (length list) (length numbers) (omega arith), p, q)
-
--- ---- what a call tells: the numbers of its answer are written, and fit
+-- ---- what a call tells: the numbers of its answer are written
 
 module _ {A : Type 0} (numbers : A → List ℕ) (list : List ℕ) {w : Written} {a c : A} where
   pub tells-it : w ≡ written list (numbers a) → a ≡ c → w ≡ written list (numbers c)
@@ -56,13 +46,6 @@ module _ {A : Type 0} (numbers : A → List ℕ) (list : List ℕ) {w : Written}
   -- an answer b that was taken apart
   pub tells : {b : A} → w ≡ written list (numbers a) → b ≡ c → b ≡ a → w ≡ written list (numbers c)
   tells e p q = tells-it e (sym q ∙ p)
-
-module _ {A : Type 0} (numbers : A → List ℕ) where
-  pub tells-apart : (list : List ℕ) {w : Written} {a b : A} → a ≡ b → w ≡ written list (numbers b) → w ≡ written list (numbers a)
-  tells-apart list p e = rw p e
-
-  pub fits-at : (i : ℕ) {a b : A} {x : ℕ} → a ≡ b → Fits (numbers a) → x ≡ getD (numbers b) i 0 → x < limit
-  fits-at i {a} p f e = rw (e, ← p) (below-at limit (numbers a) i (omega arith) f)
 
 -- ---- the numbers of Check, Read and Show
 
@@ -87,6 +70,42 @@ module _ (t r o : List ℕ) where
 
       pub length-fits : p .1 - p .0 < limit
       length-fits = omega (arith, end-fits)
+
+-- ---- a count
+
+module _ (t r o : List ℕ) (position : ℕ) where
+  pub count-place-fits : {a : CountAnswer} (f : Refusal) → CountOutcome t r o position a → a ≡ counting.Refused f → position < limit → f .place < limit
+  count-place-fits f p q l = count-place-small t r o position limit (f .number) (f .place) (omega arith) l (sym p ∙ q)
+
+  module _ (list counts : List ℕ) (shares : List Float) where
+    abbrev short : Bool
+    short = (ltb (length list) 2 || ltb (length counts) 1) || ltb (length shares) 1
+
+    pub count-nothing : short ≡ true → CountTold t r o position counts shares list (wrote 0 list) counts shares
+    unfolding toldCount
+    count-nothing h = rw h
+
+    -- else each of the three has room
+    pub count-room : short ≡ false → 0 < length counts
+    count-room e =
+        let (lists, _) = or-neither (ltb (length list) 2 || ltb (length counts) 1) (ltb (length shares) 1) e in
+        ltb-false (length counts) 1 (or-neither (ltb (length list) 2) (ltb (length counts) 1) lists .1)
+
+    pub share-room : short ≡ false → 0 < length shares
+    share-room e = ltb-false (length shares) 1 (or-neither (ltb (length list) 2 || ltb (length counts) 1) (ltb (length shares) 1) e .1)
+
+    module _ {a : CountAnswer} (outcome : CountOutcome t r o position a) (long : short ≡ false) {w : Written} where
+      pub count-told : (c : ℕ) (s : Float) → a ≡ counting.Counted c s → w ≡ written list (0 ∷ [])
+          → CountTold t r o position counts shares list w (set counts 0 c) (set shares 0 s)
+      unfolding toldCount
+      count-told c s e p = rw (long, ← outcome, e, p)
+
+      pub count-refused : (f : Refusal) → a ≡ counting.Refused f → w ≡ written list (f .number ∷ f .place ∷ [])
+          → CountTold t r o position counts shares list w counts shares
+      unfolding toldCount
+      count-refused f e p = rw (long, ← outcome, e, p)
+
+pub ruleset counted = (count-place-fits, count-nothing, count-room, share-room, count-told, count-refused, needs)
 
 -- ---- a call that may change a table and an order
 

@@ -1,15 +1,22 @@
 -- The outcome of each call: what it writes to the lent list and returns, and what it leaves in the buffers that it may change.
 -- docs/RULES.md, 6.
 use Prim.Native.Nat.{ℕ}
+use mathlib.Core.Bool.{cond, _||_}
 use mathlib.Core.List.{List}
 use mathlib.Core.Path.{_≡_}
+use lib.Dec.{ltb}
+use lib.Ieee.{Float}
+use lib.ListN.{length, set}
 use Rattle.checks.specs.Check as check
 use Rattle.reading.specs.Read as read
-use Rattle.reading.specs.Show as show
+use Rattle.showing.specs.Show as show
+use Rattle.counting.specs.Count as count
+use Rattle.counting.specs.declared.CountAnswer.{CountAnswer}
+use Rattle.counting.specs.declared.CountAnswer.the-variants as counted
 use Rattle.swaps.specs.Outcome as swap
 use Rattle.slices.specs.OneSwap.{plainSwap}
 use Rattle.slices.specs.Run as run
-use Rattle.relay.specs.Written.{Written, written, Told, told}
+use Rattle.relay_numbers.specs.Written.{Written, wrote, written, Told, told}
 
 -- ---- calls that change nothing but the list
 
@@ -21,6 +28,33 @@ ReadTold t r o position inputs list w = w ≡ written list (read.numbers (read.r
 
 abbrev pub ShowTold : List ℕ → List ℕ → List ℕ → ℕ → List ℕ → Written → Type 0
 ShowTold t r o position list w = w ≡ written list (show.numbers (show.partOf t r o position))
+
+-- ---- a count has a place of its own, and so has its share: the list, the places for the count and those for the share, afterwards
+
+pub record ToldCount : Type 0 where
+  pub written : Written
+  pub counts : List ℕ
+  pub shares : List Float
+
+-- a count in the first of its places, its share likewise; a refusal leaves them as they are
+abbrev pub placeCount : CountAnswer → List ℕ → List ℕ
+placeCount (counted.Counted c s) counts = set counts 0 c
+placeCount (counted.Refused w) counts = counts
+
+abbrev pub placeShare : CountAnswer → List Float → List Float
+placeShare (counted.Counted c s) shares = set shares 0 s
+placeShare (counted.Refused w) shares = shares
+
+-- nothing where there is no place for the longest answer, which has 2 numbers, for a count or for a share
+unfoldable pub toldCount : List ℕ → List ℕ → List Float → CountAnswer → ToldCount
+toldCount list counts shares a =
+    cond ((ltb (length list) 2 || ltb (length counts) 1) || ltb (length shares) 1)
+    (record { written = wrote 0 list; counts = counts; shares = shares })
+    (record { written = written list (count.numbers a); counts = placeCount a counts; shares = placeShare a shares })
+
+abbrev pub CountTold : List ℕ → List ℕ → List ℕ → ℕ → List ℕ → List Float → List ℕ → Written → List ℕ → List Float → Type 0
+CountTold t r o position counts shares list w counts′ shares′ =
+    record { written = w; counts = counts′; shares = shares′ } ≡ toldCount list counts shares (count.countOf t r o position)
 
 -- ---- calls that may change the table and the order; their longest answers have 4 and 6 numbers
 

@@ -1,48 +1,9 @@
 // The static library for C and Rust: each entry, with its answer as a list of numbers. include/relay.h declares it.
-ghost use mathlib.Core.List.{[], _∷_};
-ghost use mathlib.Core.Path.{_≡_};
-ghost use Prim.Native.Nat.{_<_};
-ghost use Rattle.swaps.specs.Outcome as swap;
-ghost use Rattle.slices.specs.Run as run;
-ghost use Rattle.relay.specs.Written.{wrote, written};
-ghost use Rattle.relay.specs.Told.{CheckTold, ReadTold, ShowTold, SwapTold, RunTold};
-ghost use Rattle.relay.specs.Fits.{limit, Fits};
+ghost use Rattle.relay_numbers.specs.Written.{wrote};
+ghost use Rattle.relay.specs.Told.{CheckTold, ReadTold, ShowTold, CountTold, SwapTold, RunTold};
 use checks::CheckAnswer;
-use checks::Refusal;
+use counting::CountAnswer;
 use reading::ReadAnswer;
-use slices::RunAnswer;
-use swaps::SwapAnswer;
-
-// The first numbers of two answers that are no refusal.
-const NO_ROOM: u32 = 100;
-
-const PAUSED: u32 = 101;
-
-// The numbers at the front of the list; how many, or 0 where they don't fit.
-fn write(list: &mut [u32], numbers: &[u32]) -> usize
-    ensures { λ n. ⌜ wrote n (now (list .exit)) ≡ written (now (list .entry)) (now (numbers .entry)) ⌝ }
-{
-    let m = numbers.len();
-    if list.len() < m {
-        return 0;
-    }
-    let mut i = 0;
-    while i < m {
-        list[i] = numbers[i];
-        i += 1;
-    }
-    m
-}
-
-fn tell_refusal(answer: &mut [u32], refusal: Refusal) -> usize
-    requires { ⌜ refusal .place < limit ⌝ }
-    ensures { λ n. ⌜ wrote n (now (answer .exit)) ≡ written (now (answer .entry)) (refusal .number ∷ refusal .place ∷ []) ⌝ }
-{
-    let number = refusal.number as u32;
-    let place = refusal.place as u32;
-    let numbers = [number, place];
-    write(answer, &numbers)
-}
 
 #[no_mangle]
 pub extern "C" fn relay_check(table: &[u8], roots: &[u8], order: &[u8], answer: &mut [u32]) -> usize
@@ -51,9 +12,9 @@ pub extern "C" fn relay_check(table: &[u8], roots: &[u8], order: &[u8], answer: 
     match checks::check(table, roots, order) {
         CheckAnswer::Accepted(used) => {
             let numbers = [0u32, used as u32];
-            write(answer, &numbers)
+            relay_numbers::write(answer, &numbers)
         }
-        CheckAnswer::Refused(refusal) => tell_refusal(answer, refusal),
+        CheckAnswer::Refused(refusal) => relay_numbers::tell_refusal(answer, refusal),
     }
 }
 
@@ -72,13 +33,13 @@ pub extern "C" fn relay_read(
     match reading::read(table, roots, order, position as usize, inputs) {
         ReadAnswer::Value(value) => {
             let numbers = [0u32, value as u32];
-            write(answer, &numbers)
+            relay_numbers::write(answer, &numbers)
         }
-        ReadAnswer::Refused(refusal) => tell_refusal(answer, refusal),
+        ReadAnswer::Refused(refusal) => relay_numbers::tell_refusal(answer, refusal),
     }
 }
 
-// Where the part that `reading::show` hands back begins, and its length.
+// Where the part that `showing::show` hands back begins, and its length.
 #[no_mangle]
 pub extern "C" fn relay_show(
     table: &[u8],
@@ -90,32 +51,38 @@ pub extern "C" fn relay_show(
     ensures { λ n. ⌜ ShowTold (now (table .entry)) (now (roots .entry)) (now (order .entry)) position
         (now (answer .entry)) (wrote n (now (answer .exit))) ⌝ }
 {
-    let part = reading::shown_part(table, roots, order, position as usize);
+    let part = showing::shown_part(table, roots, order, position as usize);
     let from = part.0 as u32;
     let length = (part.1 - part.0) as u32;
     let numbers = [from, length];
-    write(answer, &numbers)
+    relay_numbers::write(answer, &numbers)
 }
 
-fn tell_swap(answer: &mut [u32], a: SwapAnswer) -> usize
-    requires { ⌜ Fits (swap.numbers a) ⌝ }
-    ensures { λ n. ⌜ wrote n (now (answer .exit)) ≡ written (now (answer .entry)) (swap.numbers a) ⌝ }
+// The count and its share each in a place of its own.
+#[no_mangle]
+pub extern "C" fn relay_count(
+    table: &[u8],
+    roots: &[u8],
+    order: &[u8],
+    position: u32,
+    counts: &mut [u64],
+    shares: &mut [f64],
+    answer: &mut [u32],
+) -> usize
+    ensures { λ n. ⌜ CountTold (now (table .entry)) (now (roots .entry)) (now (order .entry)) position (now (counts .entry)) (now (shares .entry))
+        (now (answer .entry)) (wrote n (now (answer .exit))) (now (counts .exit)) (now (shares .exit)) ⌝ }
 {
-    match a {
-        SwapAnswer::Made => {
+    if (answer.len() < 2) | (counts.len() < 1) | (shares.len() < 1) {
+        return 0;
+    }
+    match counting::count(table, roots, order, position as usize) {
+        CountAnswer::Counted { count, share } => {
+            counts[0] = count;
+            shares[0] = share;
             let numbers = [0u32];
-            write(answer, &numbers)
+            relay_numbers::write(answer, &numbers)
         }
-        SwapAnswer::NoRoom(lack) => {
-            let numbers = [
-                NO_ROOM,
-                lack.level as u32,
-                lack.needed as u32,
-                lack.free as u32,
-            ];
-            write(answer, &numbers)
-        }
-        SwapAnswer::Refused(refusal) => tell_refusal(answer, refusal),
+        CountAnswer::Refused(refusal) => relay_numbers::tell_refusal(answer, refusal),
     }
 }
 
@@ -134,35 +101,7 @@ pub extern "C" fn relay_swap(
         return 0;
     }
     let a = swaps::swap(table, roots, order, level as usize);
-    tell_swap(answer, a)
-}
-
-fn tell_run(answer: &mut [u32], a: RunAnswer) -> usize
-    requires { ⌜ Fits (run.numbers a) ⌝ }
-    ensures { λ n. ⌜ wrote n (now (answer .exit)) ≡ written (now (answer .entry)) (run.numbers a) ⌝ }
-{
-    match a {
-        RunAnswer::Done { swaps, left } => {
-            let numbers = [0u32, swaps as u32, left as u32];
-            write(answer, &numbers)
-        }
-        RunAnswer::NoRoom { swaps, left, lack } => {
-            let numbers = [
-                NO_ROOM,
-                swaps as u32,
-                left as u32,
-                lack.level as u32,
-                lack.needed as u32,
-                lack.free as u32,
-            ];
-            write(answer, &numbers)
-        }
-        RunAnswer::Paused { swaps, left } => {
-            let numbers = [PAUSED, swaps as u32, left as u32];
-            write(answer, &numbers)
-        }
-        RunAnswer::Refused(refusal) => tell_refusal(answer, refusal),
-    }
+    relay_numbers::tell_swap(answer, a)
 }
 
 #[no_mangle]
@@ -182,5 +121,5 @@ pub extern "C" fn relay_run(
         return 0;
     }
     let a = slices::run(table, roots, order, target, plan, budget);
-    tell_run(answer, a)
+    relay_numbers::tell_run(answer, a)
 }

@@ -41,7 +41,7 @@ use Rattle.slices.specs.Run.{stateOf, Stepped, Driven, judgedOn}
 use Rattle.slices.specs.Theorems.{Ready, run-starts}
 use Rattle.slices.specs.declared.RunAnswer.{RunAnswer}
 use Rattle.slices.specs.declared.RunAnswer.the-variants.{Done, NoRoom, Paused, Refused}
-use Rattle.slices.specs.declared.Turn.{Turn}
+use Rattle.slices.specs.declared.Progress.{Progress}
 use Rattle.slices.specs.declared.Reached.{Reached}
 
 -- ---- the refusals
@@ -224,7 +224,7 @@ module _ (name : coded.Plan) where
     pub drive-arranged : Arranged order n
     drive-arranged = d .arranged
 
-    pub drive-rests : {s : Turn} {t′ : List ℕ} → Stepped plainSwap plan t r order goal n s t′ → not (s .moved) ≡ true
+    pub drive-rests : {s : Progress} {t′ : List ℕ} → Stepped plainSwap plan t r order goal n s t′ → not (s .moved) ≡ true
         → Driven plainSwap plan t₀ r start goal n budget (record { order = order; swaps = i }) t′
     drive-rests {s} {t′} p e =
         let still : s .moved ≡ false = not-true (s .moved) e in
@@ -234,7 +234,7 @@ module _ (name : coded.Plan) where
           small = d .so-far .within;
         }
 
-    pub drive-goes : {s : Turn} {t′ : List ℕ} {order′ : Order} → Stepped plainSwap plan t r order goal n s t′ → not (s .moved) ≡ false → i < budget
+    pub drive-goes : {s : Progress} {t′ : List ℕ} {order′ : Order} → Stepped plainSwap plan t r order goal n s t′ → not (s .moved) ≡ false → i < budget
         → order′ ≡ s .order → length t′ ≡ length t → Driving t₀ r start goal n budget t′ order′ (i + 1)
     drive-goes {s} {t′} p e l o m =
         let gone : s .moved ≡ true = not-false (s .moved) e in

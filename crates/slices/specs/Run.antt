@@ -26,7 +26,7 @@ use Rattle.swaps.specs.declared.Way.the-variants as way
 use Rattle.slices.specs.OneSwap.{OneSwap}
 use Rattle.slices.specs.declared.RunAnswer.{RunAnswer}
 use Rattle.slices.specs.declared.RunAnswer.the-variants.{Done, NoRoom, Paused, Refused}
-use Rattle.slices.specs.declared.Turn.{Turn}
+use Rattle.slices.specs.declared.Progress.{Progress}
 use Rattle.slices.specs.declared.Reached.{Reached}
 
 -- ---- the state that a slice drives: the table and the order, over the same roots
@@ -100,7 +100,7 @@ stateOf t order n = record { table = t; order = bytesOf order n }
 
 module _ (W : OneSwap) (plan : Plan) where
   -- one planned swap, where it is to be made
-  pub record Stepped (t r : List ℕ) (order goal : Order) (n : ℕ) (s : Turn) (t′ : List ℕ) : Type 0 where
+  pub record Stepped (t r : List ℕ) (order goal : Order) (n : ℕ) (s : Progress) (t′ : List ℕ) : Type 0 where
     pub moves : s .moved ≡ over.goes (relay W r) plan (bytesOf goal n) (stateOf t order n)
     pub to : s .moved ≡ true → stateOf t′ (s .order) n ≡ over.stepped (relay W r) plan (bytesOf goal n) (stateOf t order n)
     pub stays : s .moved ≡ false → t′ ≡ t

@@ -33,7 +33,7 @@ pub enum RunAnswer {
 }
 
 // Whether a planned swap was made, and the order then.
-pub struct Turn {
+pub struct Progress {
     pub moved: bool,
     pub order: Order,
 }
@@ -103,23 +103,23 @@ fn verdict_of_run(table: &[u8], roots: &[u8], order: &[u8], target: &[u8], plan:
 
 // ---- one planned swap
 
-fn step(table: &mut [u8], roots: &[u8], order: Order, goal: Order, n: usize, plan: Plan) -> Turn
+fn step(table: &mut [u8], roots: &[u8], order: Order, goal: Order, n: usize, plan: Plan) -> Progress
     requires { ⌜ TableSizes (now table) (now roots) × (Arranged order n × Arranged goal n) ⌝ }
     ensures { λ s. ⌜ Stepped plainSwap (meant plan) (now (table .entry)) (now (roots .entry)) order goal n s (now (table .exit)) ⌝ }
 {
     if plans::same(order, goal, n) {
-        return Turn {
+        return Progress {
             moved: false,
             order,
         };
     }
     let level = plans::next_level(plan, order, goal, n);
     match swaps::swap_table(table, roots, order, level) {
-        Way::NoRoom(_) => Turn {
+        Way::NoRoom(_) => Progress {
             moved: false,
             order,
         },
-        Way::Clear => Turn {
+        Way::Clear => Progress {
             moved: true,
             order: order.exchanged(level),
         },

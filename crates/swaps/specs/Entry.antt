@@ -12,11 +12,11 @@ use Rattle.orders.specs.Exchange.{exchange}
 use Rattle.diagrams.specs.Layout.{records, rootCount, rootAt, variableAt, isFree}
 use Rattle.diagrams.specs.Lookup.{lookup}
 use Rattle.diagrams.specs.Value.{value}
-use Rattle.checks.specs.Stages.{AllPass, also, both-rows, FailsFirst, stageAt, refusal, verdictOf, passed-only, clear-if, clear-only, refused-if, refused-only}
+use Rattle.checks.specs.Stages.{AllPass, also, both-rows, FailsFirst, stageAt, refusal, verdictOf, passed-only, clear-only, refused-if, refused-only}
 use Rattle.checks.specs.Stages.{row-passes, place-passes}
 use Rattle.check_names.specs.Names.{NamedByRoot, NamedByRecord}
 use Rattle.checks.specs.Check.{checkStages, used}
-use Rattle.checks.specs.Usable.{Usable, usable-if, usable-then, all-pass, passes-all}
+use Rattle.checks.specs.Usable.{Usable, usable-if, passes-all, usable-clear}
 use Rattle.checks.specs.declared.Refusal.{Refusal}
 use Rattle.checks.specs.declared.Verdict.{Verdict}
 use Rattle.checks.specs.declared.Verdict.the-variants as verdict
@@ -60,7 +60,7 @@ module _ (t r o : List ℕ) (k : ℕ) (usable : Usable t r o) (level : k + 1 < l
   all-clear : verdictOf (swapStages t r o k) ≡ verdict.Clear
   unfolding swapStages
   all-clear =
-      sym (row-passes (checkStages t r o) (stageAt 12 k (noLevel o k) ∷ []) refl (clear-if (checkStages t r o) (all-pass t r o (usable-then t r o usable)))
+      sym (row-passes (checkStages t r o) (stageAt 12 k (noLevel o k) ∷ []) refl (usable-clear t r o usable)
       (place-passes 12 k (noLevel o k) false verdict.Clear verdict.Clear (sym (lt-leb (length o - 1) k (omega arith))) refl refl))
 
   swap-is : swapOf t r o k ≡ swapAfter t r o k (wayOf t o k)

@@ -1,7 +1,10 @@
 //! Run, whole and cut into slices, by every plan, with good and bad targets and
 //! with budgets of every size.
 
-use super::{compared, name, past, random_questions, FEWEST_OF_EACH_ANSWER};
+use super::{
+    compared, counts_kept_lines, hold_to_counts_kept, name, past, random_questions, KeptCounts,
+    FEWEST_OF_EACH_ANSWER,
+};
 use crate::generate::{big, busy, random_order, roomy};
 use crate::hold::hex;
 use crate::input::Input;
@@ -16,6 +19,10 @@ use crate::tally::Tally;
 pub const QUESTIONS: u64 = 24_000;
 const FIRST_SEED: u64 = 20_600_000;
 const FEWEST: usize = 1_000;
+const KEPT: KeptCounts = KeptCounts {
+    once_in: 7,
+    fewest: 2_000,
+};
 const FEWEST_OF_EACH_PLAN: usize = 3_000;
 /// A run is cut into so many slices at most.
 const MOST_SLICES: usize = 6;
@@ -35,6 +42,7 @@ pub fn compare(count: u64) -> Result<Tally, String> {
         .refusals(&[1, 2, 3, 4, 5, 6, 7, 8, 9, 13], FEWEST_OF_EACH_ANSWER)
         .line(LOWER_REFUSAL, FEWEST_OF_EACH_ANSWER)
         .line("swaps in all", 50_000);
+    let tally = counts_kept_lines(tally, &KEPT, &["done", "paused", "no room", "refused"]);
     let tally = PLANS.iter().fold(tally, |tally, plan| {
         let of_plan = |what| of_plan(plan, what);
         tally
@@ -74,6 +82,7 @@ fn one(random: &mut Random, tally: &mut Tally) -> Result<(), String> {
     let answer = compared(&mut after, &job.slice(budget), random)?;
     tally.call();
     tally.count(&name(answer));
+    hold_to_counts_kept(&KEPT, &job.before, &after, answer, random, tally)?;
     if let Answer::Refused(refusal) = answer {
         let besides = refusal.number != 13 && plan(job.plan).is_none();
         tally.count_if(besides, LOWER_REFUSAL);

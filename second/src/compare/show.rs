@@ -36,7 +36,8 @@ fn one(random: &mut Random, tally: &mut Tally) -> Result<(), String> {
     Ok(())
 }
 
-/// "Check tells the reason"; beyond it the root is missing or a constant.
+/// Why the part is empty: what Check refuses, or else the root is missing or a
+/// constant.
 fn reason(input: &mut Input, position: u32) -> String {
     match answer(input, &Question::Check) {
         Answer::Refused(refusal) => refused_table(refusal.number),

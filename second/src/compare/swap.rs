@@ -1,7 +1,10 @@
 //! Swap, on tables with few, some and many free records, and damaged ones,
 //! with good and bad levels.
 
-use super::{compared, name, past, random_questions, FEWEST_OF_EACH_ANSWER};
+use super::{
+    compared, counts_kept_lines, hold_to_counts_kept, name, past, random_questions, KeptCounts,
+    FEWEST_OF_EACH_ANSWER,
+};
 use crate::generate::{accepted, big, busy, with_free};
 use crate::input::Input;
 use crate::kept::{no_room_keeps, swap_keeps};
@@ -15,6 +18,10 @@ use crate::tally::Tally;
 pub const QUESTIONS: u64 = 30_000;
 const FIRST_SEED: u64 = 20_500_000;
 const FEWEST: usize = 1_000;
+const KEPT: KeptCounts = KeptCounts {
+    once_in: 20,
+    fewest: 1_000,
+};
 
 pub fn compare(count: u64) -> Result<Tally, String> {
     let tally = Tally::new("random swaps", 20_000)
@@ -27,6 +34,7 @@ pub fn compare(count: u64) -> Result<Tally, String> {
         .line("no room for a single record", FEWEST_OF_EACH_ANSWER)
         .line("not refused, with 4,096 records", FEWEST_OF_EACH_ANSWER)
         .refusals(&[1, 2, 4, 5, 6, 7, 8, 9, 12], FEWEST_OF_EACH_ANSWER);
+    let tally = counts_kept_lines(tally, &KEPT, &["made", "no room", "refused"]);
     random_questions(tally, FIRST_SEED, count, one)
 }
 
@@ -47,6 +55,7 @@ fn one(random: &mut Random, tally: &mut Tally) -> Result<(), String> {
     let answer = compared(&mut after, &Question::Swap { level }, random)?;
     tally.call();
     tally.count(&name(answer));
+    hold_to_counts_kept(&KEPT, &before, &after, answer, random, tally)?;
     if let Answer::Refused(_) = answer {
         return Ok(());
     }

@@ -1,5 +1,5 @@
 use borrow.Author.Needs.{needs}
-use Rattle.reading.specs.Show.{numbers}
+use Rattle.showing.specs.Show.{numbers}
 use Rattle.relay.proofs.Laws.{tells-it, from-fits, length-fits}
 use Rattle.relay.proofs.relay_show.Statement.{statement}
 use Rattle.relay.proofs.relay_show.Tie as tie
