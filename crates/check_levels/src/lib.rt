@@ -10,36 +10,43 @@ ghost use Rattle.check_levels.specs.Levels.{notUnder, notBelow};
 use diagrams::RecordNumber;
 use diagrams::Reference;
 use orders::Order;
+use orders::level_in;
 
 // Is it the reference of a record that is not below `level`?
-fn is_not_under(table: &[u8], order: Order, n: usize, level: usize, x: Reference) -> bool
+fn is_not_under(
+    table: &[u8],
+    levels: &[u8; Order::CEILING],
+    n: usize,
+    level: usize,
+    x: Reference,
+) -> bool
     requires { ⌜ n ≤ ceiling ⌝ }
-    ensures { λ b. ⌜ b ≡ notUnder (now (table .entry)) (levelIn (order .levels) n) level (x .0) ⌝ }
+    ensures { λ b. ⌜ b ≡ notUnder (now (table .entry)) (levelIn (now (levels .entry)) n) level (x .0) ⌝ }
 {
     if x.names_record(table) {
-        return order.level_of(n, x.record().variable(table)) <= level;
+        return level_in(levels, n, x.record().variable(table)) <= level;
     }
     false
 }
 
-fn is_not_below(table: &[u8], order: Order, n: usize, i: RecordNumber) -> bool
+fn is_not_below(table: &[u8], levels: &[u8; Order::CEILING], n: usize, i: RecordNumber) -> bool
     requires { ⌜ InTable (now table) (i .0) × (n ≤ ceiling) ⌝ }
-    ensures { λ b. ⌜ b ≡ notBelow (now (table .entry)) (levelIn (order .levels) n) (i .0) ⌝ }
+    ensures { λ b. ⌜ b ≡ notBelow (now (table .entry)) (levelIn (now (levels .entry)) n) (i .0) ⌝ }
 {
-    let level = order.level_of(n, i.variable(table));
+    let level = level_in(levels, n, i.variable(table));
     i.is_used(table)
-        & (is_not_under(table, order, n, level, i.low(table))
-            | is_not_under(table, order, n, level, i.high(table)))
+        & (is_not_under(table, levels, n, level, i.low(table))
+            | is_not_under(table, levels, n, level, i.high(table)))
 }
 
-fn first_not_below_in(table: &[u8], order: Order, n: usize) -> usize
+fn first_not_below_in(table: &[u8], levels: &[u8; Order::CEILING], n: usize) -> usize
     requires { ⌜ n ≤ ceiling ⌝ }
-    ensures { λ x. ⌜ x ≡ first (notBelow (now (table .entry)) (levelIn (order .levels) n)) (records (now (table .entry))) ⌝ }
+    ensures { λ x. ⌜ x ≡ first (notBelow (now (table .entry)) (levelIn (now (levels .entry)) n)) (records (now (table .entry))) ⌝ }
 {
     let m = diagrams::count_records(table);
     let mut i = 0;
     while i < m {
-        if is_not_below(table, order, n, RecordNumber(i)) {
+        if is_not_below(table, levels, n, RecordNumber(i)) {
             return i;
         }
         i += 1;
@@ -47,10 +54,11 @@ fn first_not_below_in(table: &[u8], order: Order, n: usize) -> usize
     m
 }
 
-// The same, of an order as it is stored.
+// The same, of an order as it is stored. Its levels are lent, since an order by value would be copied for each record.
 pub fn first_not_below(table: &[u8], order: &[u8]) -> usize
     requires { ⌜ (length (now order) ≤ ceiling) × Permutation (now order) ⌝ }
     ensures { λ x. ⌜ x ≡ first (notBelow (now (table .entry)) (levelOf (now (order .entry)))) (records (now (table .entry))) ⌝ }
 {
-    first_not_below_in(table, Order::load(order), order.len())
+    let levels = Order::load(order).levels;
+    first_not_below_in(table, &levels, order.len())
 }

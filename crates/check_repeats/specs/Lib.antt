@@ -1,1 +1,4 @@
 pub mod Repeats
+pub mod Buckets
+pub mod Searching
+pub mod Late

@@ -21,6 +21,10 @@ repeats t i = isUsed t i && any (sameRecord t i) i
 abbrev pub Same : List ℕ → ℕ → ℕ → Type 0
 Same t i j = ((variableAt t j ≡ variableAt t i) × (lowAt t j ≡ lowAt t i)) × (highAt t j ≡ highAt t i)
 
+pub same-says : (t : List ℕ) (i j : ℕ) → Says (sameRecord t i j) (Same t i j)
+unfolding sameRecord
+same-says t i j = search says
+
 pub repeats-says : (t : List ℕ) (i : ℕ) → Says (repeats t i) (Used t i × Some (Same t i) i)
 unfolding repeats sameRecord
 repeats-says t i = search says

@@ -1,9 +1,19 @@
-// Check 7: the first record that is the same as an earlier one.
+// Check 7: the first record that is the same as an earlier one. Three ways find it, with one contract: by chains; without a hash, where the chains are too
+// long; and by a plain search, in a table of few records or of more than the others have room for.
 ghost use mathlib.Core.Path.{_≡_};
 ghost use Rattle.lists.specs.First.{first};
 ghost use Rattle.diagrams.specs.Layout.{records, InTable};
 ghost use Rattle.check_repeats.specs.Repeats.{sameRecord, repeats};
+use chained::Searched;
+use diagrams::MOST_RECORDS;
 use diagrams::RecordNumber;
+
+mod chained;
+mod classed;
+mod plain;
+
+// Below so many records clearing the heads of the chains takes longer than the plain search.
+const FEW: usize = 24;
 
 fn is_same(table: &[u8], i: RecordNumber, j: RecordNumber) -> bool
     requires { ⌜ InTable (now table) (i .0) × InTable (now table) (j .0) ⌝ }
@@ -15,39 +25,15 @@ fn is_same(table: &[u8], i: RecordNumber, j: RecordNumber) -> bool
     (j.variable(table).0 == variable.0) & (j.low(table).0 == low.0) & (j.high(table).0 == high.0)
 }
 
-// The first record before i that is the same; i where there is none.
-fn first_same(table: &[u8], i: RecordNumber) -> usize
-    requires { ⌜ InTable (now table) (i .0) ⌝ }
-    ensures { λ x. ⌜ x ≡ first (sameRecord (now (table .entry)) (i .0)) (i .0) ⌝ }
-{
-    let m = i.0;
-    let mut j = 0;
-    while j < m {
-        if is_same(table, i, RecordNumber(j)) {
-            return j;
-        }
-        j += 1;
-    }
-    m
-}
-
-fn is_repeat(table: &[u8], i: RecordNumber) -> bool
-    requires { ⌜ InTable (now table) (i .0) ⌝ }
-    ensures { λ b. ⌜ b ≡ repeats (now (table .entry)) (i .0) ⌝ }
-{
-    i.is_used(table) & (first_same(table, i) < i.0)
-}
-
 pub fn first_repeat(table: &[u8]) -> usize
     ensures { λ x. ⌜ x ≡ first (repeats (now (table .entry))) (records (now (table .entry))) ⌝ }
 {
     let m = diagrams::count_records(table);
-    let mut i = 0;
-    while i < m {
-        if is_repeat(table, RecordNumber(i)) {
-            return i;
-        }
-        i += 1;
+    if (m < FEW) | (MOST_RECORDS < m) {
+        return plain::search(table);
     }
-    m
+    match chained::search(table) {
+        Searched::Ended(place) => place,
+        Searched::Crowded => classed::search(table),
+    }
 }

@@ -9,8 +9,8 @@ pub first-not-below-in-spec : {M : Type 1} → statement M
 first-not-below-in-spec =
     tie.close
     (tie.spec
-    (λ table order n m i₀ i. Scan (notBelow table (levelIn (order .levels) n)) m i)
-    (λ table order n m i₀ i. m - i)
+    (λ table levels n m i₀ i. Scan (notBelow table (levelIn levels n)) m i)
+    (λ table levels n m i₀ i. m - i)
     (λ c κs. search scan)
     (λ c. search scan)
     (λ c κs. search scan)

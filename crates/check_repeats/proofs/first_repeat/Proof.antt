@@ -1,6 +1,5 @@
-use Prim.Native.Nat.{_-_}
-use Rattle.lists.specs.First.{Scan, scan}
-use Rattle.check_repeats.specs.Repeats.{repeats}
+use borrow.Author.Needs.{needs}
+use Rattle.check_repeats.proofs.Laws.{few-enough, told-ended}
 use Rattle.check_repeats.proofs.first_repeat.Statement.{statement}
 use Rattle.check_repeats.proofs.first_repeat.Tie as tie
 
@@ -8,13 +7,12 @@ pub first-repeat-spec : {M : Type 1} → statement M
 first-repeat-spec =
     tie.close
     (tie.spec
-    (λ table m i₀ i. Scan (repeats table) m i)
-    (λ table m i₀ i. m - i)
-    (λ c κs. search scan)
-    (λ c. search scan)
-    (λ c κs. search scan)
-    (λ c. search scan)
-    (λ c. search scan)
-    (λ c. search scan)
-    (λ c. search scan)
-    (λ c. search scan))
+    (λ c κs. search (few-enough, needs))
+    (λ c κs. search (few-enough, needs))
+    (λ c. search (few-enough, needs))
+    (λ c κs. search (few-enough, needs))
+    (λ c. search (few-enough, needs))
+    (λ c. search (few-enough, needs))
+    (λ c κs. search (few-enough, needs))
+    (λ c. search (told-ended, needs))
+    (λ c. search (few-enough, needs)))

@@ -1,8 +1,8 @@
 use Prim.Native.Nat.{_-_}
 use Rattle.lists.specs.First.{Scan, scan}
 use Rattle.check_repeats.specs.Repeats.{sameRecord}
-use Rattle.check_repeats.proofs.first_same.Statement.{statement}
-use Rattle.check_repeats.proofs.first_same.Tie as tie
+use Rattle.check_repeats.proofs.plain.first_same.Statement.{statement}
+use Rattle.check_repeats.proofs.plain.first_same.Tie as tie
 
 pub first-same-spec : {M : Type 1} → statement M
 first-same-spec =

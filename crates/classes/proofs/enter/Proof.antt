@@ -1,0 +1,23 @@
+use borrow.Author.Needs.{needs}
+use Rattle.classes.proofs.Laws.{entered}
+use Rattle.classes.proofs.enter.Statement.{statement}
+use Rattle.classes.proofs.enter.Tie as tie
+
+pub enter-spec : {M : Type 1} → statement M
+enter-spec =
+    tie.close
+    (tie.spec
+    (λ c. search needs)
+    (λ c. search needs)
+    (λ c κs. search needs)
+    (λ c κs. search needs)
+    (λ c. search needs)
+    (λ c. search needs)
+    (λ c. search needs)
+    (λ c. search needs)
+    (λ c. search needs)
+    (λ c. search needs)
+    (λ c. search needs)
+    (λ c. search needs)
+    (λ c. search needs)
+    (λ c. search (entered, needs)))
