@@ -1,12 +1,12 @@
-//! Full tables that are accepted and made to be hard on a check 7 that puts the
-//! records into buckets by a hash: one with most of its records in one bucket,
-//! and one with as many in each bucket as aren't crowded yet.
+//! Full tables that are accepted and made to be hard on check 7, which chains the
+//! records in buckets by a hash and gives the chains up after too many steps: one
+//! where it does so early, one where it just doesn't, and one where it does late.
 
 use crate::generate::{Buffers, Diagram, Random, RECORDS, ROOTS, VARIABLES};
 
-/// Check 7's buckets, and the most records of a bucket that isn't crowded.
+/// Check 7's buckets, and the most steps along their chains that it makes.
 const BUCKETS: usize = 8_192;
-const CROWD: usize = 16;
+const MOST_STEPS: usize = 2 * RECORDS;
 
 /// The bucket that is crowded most, any of them.
 const CHOSEN: usize = 5_000;
@@ -17,10 +17,12 @@ const BASE: usize = 500;
 const GLUE: usize = 3;
 
 pub struct Crowded {
-    pub name: &'static str,
+    pub name: String,
     pub buffers: Buffers,
     /// How many records the fullest bucket has.
     pub fullest: usize,
+    /// How many steps check 7 would make if it never gave up.
+    steps: usize,
 }
 
 /// A base of any records, above it records of one bucket, at the top records of
@@ -37,39 +39,45 @@ pub fn one_bucket(seed: u64) -> Crowded {
             growth.add_level(level, RECORDS, 2, |_, _| true);
         }
     }
-    let buffers = growth.buffers();
-    let fullest = fullest(&counts(&buffers));
+    let crowded = growth.crowded("one bucket".to_string());
+    let fullest = crowded.fullest;
     assert!(fullest >= 3_000, "one bucket has only {fullest} records");
-    Crowded {
-        name: "one bucket",
-        buffers,
-        fullest,
-    }
+    crowded
 }
 
-/// As few buckets as can hold all records with none of them crowded.
-pub fn buckets_of_16(seed: u64) -> Crowded {
-    const FEWEST: usize = RECORDS / CROWD;
+/// The longest chains of one length that are walked to the end.
+pub fn buckets_of_5(seed: u64) -> Crowded {
+    let crowded = buckets_of(5, seed);
+    let steps = crowded.steps;
+    assert!(steps > 7_500, "the chains have only {steps} steps");
+    assert!(steps <= MOST_STEPS, "the chains have {steps} steps");
+    crowded
+}
+
+/// Chains that are given up late, so that the table is searched both ways.
+pub fn buckets_of_6(seed: u64) -> Crowded {
+    let crowded = buckets_of(6, seed);
+    let steps = crowded.steps;
+    assert!(steps > MOST_STEPS, "the chains have only {steps} steps");
+    crowded
+}
+
+/// As few buckets as can hold all records with no more than `limit` in each.
+fn buckets_of(limit: usize, seed: u64) -> Crowded {
+    let fewest = RECORDS.div_ceil(limit);
     let mut growth = Growth::new(seed);
     for level in (0..VARIABLES).rev() {
         growth.add_level(level, 400, 0, |buckets, bucket| {
             match buckets.counts[bucket] {
-                0 => buckets.taken < FEWEST,
-                count => count < CROWD,
+                0 => buckets.taken < fewest,
+                count => count < limit,
             }
         });
     }
-    let buffers = growth.buffers();
-    let counts = counts(&buffers);
-    let fullest = fullest(&counts);
-    assert_eq!(fullest, CROWD, "the fullest bucket has {fullest} records");
-    let taken = counts.iter().filter(|&&count| count > 0).count();
-    assert!(taken <= FEWEST, "the records lie in {taken} buckets");
-    Crowded {
-        name: "buckets of 16",
-        buffers,
-        fullest,
-    }
+    let crowded = growth.crowded(format!("buckets of {limit}"));
+    let fullest = crowded.fullest;
+    assert_eq!(fullest, limit, "the fullest bucket has {fullest} records");
+    crowded
 }
 
 /// The hash of check 7, over the numbers as they are stored.
@@ -89,10 +97,6 @@ fn counts(buffers: &Buffers) -> Vec<usize> {
         }
     }
     counts
-}
-
-fn fullest(counts: &[usize]) -> usize {
-    counts.iter().copied().max().unwrap_or(0)
 }
 
 struct Buckets {
@@ -198,6 +202,18 @@ impl Growth {
         let count = &mut self.buckets.counts[bucket(variable, low, high)];
         self.buckets.taken += usize::from(*count == 0);
         *count += 1;
+    }
+
+    fn crowded(self, name: String) -> Crowded {
+        let buffers = self.buffers();
+        let counts = counts(&buffers);
+        Crowded {
+            name,
+            buffers,
+            fullest: counts.iter().copied().max().unwrap_or(0),
+            // Each record of a bucket walks past all earlier ones of it.
+            steps: counts.iter().map(|c| c * c.saturating_sub(1) / 2).sum(),
+        }
     }
 
     /// The table with the records that nothing names as roots.

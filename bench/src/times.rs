@@ -22,7 +22,12 @@ pub fn print(repetitions: usize) -> ExitCode {
             return ExitCode::FAILURE;
         }
     }
-    for crowded in [crowded::one_bucket(3), crowded::buckets_of_16(1)] {
+    let crowded_tables = [
+        crowded::one_bucket(3),
+        crowded::buckets_of_5(1),
+        crowded::buckets_of_6(1),
+    ];
+    for crowded in crowded_tables {
         print_crowded(&crowded, &cases[0].before, repetitions);
     }
     println!(
