@@ -10,11 +10,11 @@ use crate::ordinary::{self, Answer, Plan};
 pub const PLAN: Plan = Plan::BringUp;
 /// The sizes of a full table.
 pub const RECORDS: usize = 4_096;
-const VARIABLES: usize = 32;
+pub const VARIABLES: usize = 32;
 /// The sizes of a job's table.
 pub const JOB_RECORDS: usize = 512;
 pub const JOB_VARIABLES: usize = 16;
-const ROOTS: usize = 64;
+pub const ROOTS: usize = 64;
 /// The fewest inputs of a root that fills up the rest.
 const FEWEST: usize = 4;
 
@@ -101,9 +101,9 @@ pub fn job(seed: u64, most: usize, percent: usize) -> Job {
 /// A reduced diagram, its records with children first. Reference 0 is false,
 /// 1 is true and r of 2 or more the record at r - 2.
 #[derive(Clone, Default)]
-struct Diagram {
-    records: Vec<(u8, usize, usize)>,
-    roots: Vec<usize>,
+pub struct Diagram {
+    pub records: Vec<(u8, usize, usize)>,
+    pub roots: Vec<usize>,
     known: HashMap<(u8, usize, usize), usize>,
 }
 
@@ -152,7 +152,11 @@ impl Diagram {
         if low == high {
             return low;
         }
-        let record = (variable, low, high);
+        self.add((variable, low, high))
+    }
+
+    /// The reference of the record, which is new or known.
+    pub fn add(&mut self, record: (u8, usize, usize)) -> usize {
         *self.known.entry(record).or_insert_with(|| {
             self.records.push(record);
             self.records.len() + 1
@@ -166,30 +170,36 @@ impl Diagram {
             return None;
         }
         let numbers = Random::new(seed).shuffled((0..length as u16).collect());
+        Some(self.placed(&numbers, order))
+    }
+
+    /// The records at these numbers, in a table that has as many records as there
+    /// are numbers.
+    pub fn placed(&self, numbers: &[u16], order: &[u8]) -> Buffers {
         let reference = |r: usize| match r {
             0 | 1 => (r as u16).to_le_bytes(),
             _ => (numbers[r - 2] + 2).to_le_bytes(),
         };
-        let mut table = [255, 0, 0, 0, 0, 0, 0, 0].repeat(length);
+        let mut table = [255, 0, 0, 0, 0, 0, 0, 0].repeat(numbers.len());
         for (&number, &(variable, low, high)) in numbers.iter().zip(&self.records) {
             let bytes = &mut table[number as usize * 8..][..8];
             bytes[0] = variable;
             bytes[2..4].copy_from_slice(&reference(low));
             bytes[4..6].copy_from_slice(&reference(high));
         }
-        Some(Buffers {
+        Buffers {
             table,
             roots: self.roots.iter().flat_map(|&r| reference(r)).collect(),
             order: order.to_vec(),
-        })
+        }
     }
 }
 
 /// Numbers that a seed decides: xorshift64*.
-struct Random(u64);
+pub struct Random(u64);
 
 impl Random {
-    fn new(seed: u64) -> Random {
+    pub fn new(seed: u64) -> Random {
         let mut random = Random(seed.wrapping_mul(0x9E37_79B9_7F4A_7C15) | 1);
         for _ in 0..10 {
             random.below(2);
@@ -205,14 +215,14 @@ impl Random {
         number as usize % limit
     }
 
-    fn shuffled<T>(&mut self, mut list: Vec<T>) -> Vec<T> {
+    pub fn shuffled<T>(&mut self, mut list: Vec<T>) -> Vec<T> {
         for last in (1..list.len()).rev() {
             list.swap(last, self.below(last + 1));
         }
         list
     }
 
-    fn permutation(&mut self, length: usize) -> Vec<u8> {
+    pub fn permutation(&mut self, length: usize) -> Vec<u8> {
         self.shuffled((0..length as u8).collect())
     }
 }

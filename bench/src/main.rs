@@ -1,6 +1,7 @@
 //! Times of the library beside other programs, and how far its plans come.
 
 mod buddy;
+mod crowded;
 mod entries;
 mod generate;
 mod library;

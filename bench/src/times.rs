@@ -9,41 +9,75 @@ use std::process::ExitCode;
 use std::time::Instant;
 
 use crate::buddy;
+use crate::crowded::{self, Crowded};
 use crate::generate::{self, Buffers, Case, PLAN, RECORDS};
 use crate::library;
 use crate::ordinary::{self, Answer, Counted, Plan};
 
 pub fn print(repetitions: usize) -> ExitCode {
-    for (seed, inputs) in [(1, 8), (2, 13)] {
-        let case = generate::full(seed, inputs);
-        println!(
-            "{}: {} of {RECORDS} records used, order reversed in {} swaps",
-            case.name,
-            case.before.used(),
-            case.swaps
-        );
-        let states = states(&case);
-        agree(&case, &states);
-        let times = measure(&case, &states, repetitions);
-        times.print();
-        if let Some(program) = env::var_os("BUDDY") {
-            match buddy::microseconds(&program, &case, repetitions) {
-                Ok(time) => {
-                    let time = time / f64::from(case.swaps);
-                    row("swap, against BuDDy", [times.within[0], time]);
-                }
-                Err(reason) => {
-                    eprintln!("BuDDy: {reason}");
-                    return ExitCode::FAILURE;
-                }
-            }
+    let cases = [(1, 8), (2, 13)].map(|(seed, inputs)| generate::full(seed, inputs));
+    for case in &cases {
+        if let Err(reason) = print_case(case, repetitions) {
+            eprintln!("BuDDy: {reason}");
+            return ExitCode::FAILURE;
         }
-        println!();
+    }
+    let crowded_tables = [
+        crowded::one_bucket(3),
+        crowded::buckets_of_5(1),
+        crowded::buckets_of_6(1),
+    ];
+    for crowded in crowded_tables {
+        print_crowded(&crowded, &cases[0].before, repetitions);
     }
     println!(
         "Microseconds, the least of {repetitions}; left the library, right the other program."
     );
     ExitCode::SUCCESS
+}
+
+/// All rows of a table, or the reason why BuDDy's is missing.
+fn print_case(case: &Case, repetitions: usize) -> Result<(), String> {
+    println!(
+        "{}: {} of {RECORDS} records used, order reversed in {} swaps",
+        case.name,
+        case.before.used(),
+        case.swaps
+    );
+    let states = states(case);
+    agree(case, &states);
+    let times = measure(case, &states, repetitions);
+    times.print();
+    if let Some(program) = env::var_os("BUDDY") {
+        let time = buddy::microseconds(&program, case, repetitions)?;
+        let time = time / f64::from(case.swaps);
+        row("swap, against BuDDy", [times.within[0], time]);
+    }
+    println!();
+    Ok(())
+}
+
+/// The check of a crowded table, which the first table's is timed beside.
+fn print_crowded(crowded: &Crowded, first: &Buffers, repetitions: usize) {
+    println!(
+        "{}: {} of {RECORDS} records used, {} in the fullest bucket",
+        crowded.name,
+        crowded.buffers.used(),
+        crowded.fullest
+    );
+    agree_on_check(&crowded.buffers);
+    let [mut ours, mut theirs, mut of_first] = [f64::INFINITY; 3];
+    for _ in 0..repetitions {
+        time_checks(&crowded.buffers, [&mut ours, &mut theirs]);
+        time_library_check(first, &mut of_first);
+    }
+    header();
+    println!(
+        "{}   and {:.2} times the check of the first table",
+        line(&format!("check, {}", crowded.name), [ours, theirs]),
+        ours / of_first
+    );
+    println!();
 }
 
 /// Both sides give the same answers and leave the same buffers.
@@ -53,9 +87,7 @@ fn agree(case: &Case, states: &[State]) {
         assert_eq!(answer[..count], expected.numbers(), "the answers differ");
     };
 
-    let count = library::check(&case.before, &mut answer);
-    same(count, &answer, ordinary::check(&case.before));
-
+    agree_on_check(&case.before);
     agree_on_counts(&case.before);
     agree_on_counts(&case.after);
 
@@ -73,6 +105,16 @@ fn agree(case: &Case, states: &[State]) {
         same(count, &answer, expected);
         assert!(ours == theirs, "the buffers differ after a run by {plan:?}");
     }
+}
+
+/// Both sides accept the table and tell how many of its records are used.
+fn agree_on_check(buffers: &Buffers) {
+    let mut answer = [0; 6];
+    let used = buffers.used();
+    let accepted = Answer::Accepted { used };
+    let count = library::check(buffers, &mut answer);
+    assert_eq!(answer[..count], accepted.numbers(), "the library refuses");
+    assert_eq!(ordinary::check(buffers), accepted, "the other refuses");
 }
 
 /// Both sides count the same for each root, with a share of the same bits, and
@@ -139,11 +181,7 @@ fn measure(case: &Case, states: &[State], repetitions: usize) -> Times {
     let mut answer = [0; 6];
     for _ in 0..repetitions {
         let [ours, theirs] = &mut check;
-        least(ours, || {
-            library::check(black_box(&case.before), &mut answer)
-        });
-        least(theirs, || ordinary::check(black_box(&case.before)));
-
+        time_checks(&case.before, [ours, theirs]);
         time_counts(&case.before, &mut counts);
         time_swaps(states, &mut swaps);
 
@@ -168,6 +206,16 @@ fn measure(case: &Case, states: &[State], repetitions: usize) -> Times {
         within: [within(0), within(1)],
         run,
     }
+}
+
+fn time_checks(buffers: &Buffers, [ours, theirs]: [&mut f64; 2]) {
+    time_library_check(buffers, ours);
+    least(theirs, || ordinary::check(black_box(buffers)));
+}
+
+fn time_library_check(buffers: &Buffers, best: &mut f64) {
+    let mut answer = [0; 6];
+    least(best, || library::check(black_box(buffers), &mut answer));
 }
 
 /// The count of each root: the library's time, the ordinary program's, and the
@@ -217,10 +265,7 @@ fn least<T>(best: &mut f64, work: impl FnOnce() -> T) {
 
 impl Times {
     fn print(&self) {
-        println!(
-            "{:<26} {:>10} {:>10} {:>7}",
-            "", "library", "ordinary", "ratio"
-        );
+        header();
         row("check", self.check);
         row("count, with its check", self.count);
         row("count alone", self.count_alone);
@@ -230,9 +275,20 @@ impl Times {
     }
 }
 
-fn row(name: &str, [ours, theirs]: [f64; 2]) {
+fn header() {
     println!(
+        "{:<26} {:>10} {:>10} {:>7}",
+        "", "library", "ordinary", "ratio"
+    );
+}
+
+fn row(name: &str, times: [f64; 2]) {
+    println!("{}", line(name, times));
+}
+
+fn line(name: &str, [ours, theirs]: [f64; 2]) -> String {
+    format!(
         "{name:<26} {ours:>10.1} {theirs:>10.1} {:>7.2}",
         ours / theirs
-    );
+    )
 }
