@@ -2,7 +2,7 @@
 use Prim.Native.Nat.{ℕ, _+_, _≤_, _<_}
 use mathlib.Core.Bool.{Bool, true, false, _||_}
 use mathlib.Core.List.{List}
-use mathlib.Core.Path.{_≡_, ap, sym, _∙_}
+use mathlib.Core.Path.{_≡_, sym, _∙_}
 use native.Mathlib.Omega.{arith}
 use borrow.Author.Needs.{needs}
 use borrow.Author.Tests.{lt-ltb, le-ltb, ltb-false}
@@ -13,7 +13,7 @@ use Rattle.lists.specs.First.{first, Scan, scan-goes, scan-finds, scan-ends, sc
 use Rattle.diagrams.specs.Layout.{variableAt, lowAt, highAt, isFree, isUsed, mostRecords, records}
 use Rattle.chains.specs.Mixed.{buckets, mixed}
 use Rattle.chains.specs.Chains.{chaining}
-use Rattle.check_repeats.specs.Repeats.{sameRecord, repeats}
+use Rattle.check_repeats.specs.Repeats.{repeats}
 use Rattle.check_repeats.specs.Buckets.{bucketAt, bucketOf}
 use Rattle.check_repeats.specs.Searching.{Walks, Looks, Told}
 use Rattle.check_repeats.specs.declared.chained.Walked.{Walked}

@@ -8,7 +8,7 @@ use native.Mathlib.Omega.{arith}
 use borrow.Author.Tests.{eq-eqb, ne-eqb}
 use lib.Dec.{eqb, ltb}
 use lib.ListN.{getD}
-use Rattle.lists.specs.First.{first, any, first-agrees}
+use Rattle.lists.specs.First.{first, first-agrees}
 use Rattle.lists.specs.Says.{decided, denies}
 use Rattle.diagrams.specs.Layout.{variableAt, lowAt, highAt, isUsed}
 use Rattle.classes.specs.Classes.{Classes, classOf}

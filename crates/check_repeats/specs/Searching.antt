@@ -1,9 +1,8 @@
 -- What a walk along a chain tells of record i, and what the search by chains tells of the table.
-use Prim.Native.Nat.{ℕ, _≤_, _<_}
+use Prim.Native.Nat.{ℕ, _+_, _≤_, _<_}
 use mathlib.Core.List.{List}
 use mathlib.Core.Path.{_≡_}
 use lib.Dec.{ltb}
-use lib.ListN.{length}
 use Rattle.lists.specs.First.{first}
 use Rattle.diagrams.specs.Layout.{mostRecords, records, InTable}
 use Rattle.chains.specs.Chains.{Chained}
@@ -28,6 +27,10 @@ pub record Walks (t : List ℕ) (i : ℕ) (w : Walked) : Type 0 where
 pub record Looks (t : List ℕ) (i : ℕ) (w : Walked) : Type 0 where
   pub tells : ltb (w .found) i ≡ repeats t i
   pub short : w .met ≤ i
+
+-- and then it is an entry too
+abbrev pub Enters : List ℕ → ℕ → Walked → List ℕ → List ℕ → Type 0
+Enters t i w head link = Looks t i w × Chained (bucketAt t) mostRecords (i + 1) head link
 
 -- where the search ended, it ended at the first repeating record, or past the last record; where it was given up, nothing is said
 abbrev pub Told : List ℕ → Searched → Type 0

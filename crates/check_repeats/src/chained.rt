@@ -5,7 +5,7 @@ ghost use Rattle.diagrams.specs.Layout.{mostRecords, records, InTable};
 ghost use Rattle.chains.specs.Mixed.{buckets};
 ghost use Rattle.chains.specs.Chains.{Chained};
 ghost use Rattle.check_repeats.specs.Buckets.{bucketAt};
-ghost use Rattle.check_repeats.specs.Searching.{Chains, Walks, Looks, Told};
+ghost use Rattle.check_repeats.specs.Searching.{Chains, Walks, Looks, Enters, Told};
 use super::is_same;
 use diagrams::MOST_RECORDS;
 use diagrams::RecordNumber;
@@ -67,7 +67,7 @@ fn look(table: &[u8], head: &[u16], link: &[u16], b: usize, i: RecordNumber) -> 
 // Record i looks, and goes to the front of its bucket.
 fn enter(table: &[u8], head: &mut [u16], link: &mut [u16], i: RecordNumber) -> Walked
     requires { ⌜ Chains (now table) (i .0) (now head) (now link) ⌝ }
-    ensures { λ w. ⌜ Looks (now (table .entry)) (i .0) w × Chained (bucketAt (now (table .entry))) mostRecords (i .0 + 1) (now (head .exit)) (now (link .exit)) ⌝ }
+    ensures { λ w. ⌜ Enters (now (table .entry)) (i .0) w (now (head .exit)) (now (link .exit)) ⌝ }
 {
     let b = bucket(table, i);
     let walked = look(table, head, link, b, i);

@@ -1,30 +1,28 @@
 -- One law for each way out of a function, over plain variables: its premises are what is known there.
 use Prim.Native.Nat.{ℕ, _+_, _-_, _*_, _/_, _%_, _^_, _≤_, _<_}
-use mathlib.Core.Bool.{cond}
 use mathlib.Core.List.{List}
 use mathlib.Core.Path.{_≡_, ap, sym, _∙_}
 use native.Mathlib.Nat.{add-mul-div-left, add-mul-mod-self-left, div-div-eq-div-mul, div-eq-of-lt, mul-assoc}
 use native.Mathlib.Omega.{arith}
 use borrow.Author.Needs.{needs}
 use borrow.Author.Tests.{eq-eqb, ne-eqb}
-use lib.Dec.{eqb}
 use lib.Pow.{pow-add, pow-pos}
-use lib.ListN.{length, getD, set, replicate}
+use lib.ListN.{length, getD, set}
 use Rattle.diagrams.specs.Layout.{mostRecords, variableAt, lowAt, highAt}
 use Rattle.classes.specs.Classes.{Classes}
-use Rattle.classes.specs.Pass.{Entered, Roomy, Passing, passing-room, passing-goes}
-use Rattle.classes.specs.Keys.{rest, keyAt, part, bitAt, placeAt, whole}
+use Rattle.classes.specs.Pass.{come, Entered, Roomy, Passing, passing-room, passing-goes}
+use Rattle.classes.specs.Keys.{rest, keyAt, part, bitAt, placeAt, Split, whole}
 
 module _ (s i : ℕ) where
-  pub come-first : s ≡ 0 → i + 1 ≡ cond (eqb s 0) (i + 1) s
+  pub come-first : s ≡ 0 → i + 1 ≡ come s i
   come-first e = rw (eq-eqb s 0 e)
 
-  pub come-later : (s ≡ 0 → ⊥) → s ≡ cond (eqb s 0) (i + 1) s
+  pub come-later : (s ≡ 0 → ⊥) → s ≡ come s i
   come-later d = rw (ne-eqb s 0 d)
 
 pub ruleset coming = (come-first, come-later, needs)
 
-pub entered : (class slot : List ℕ) (i x : ℕ) {s v : ℕ} → s ≡ getD slot x 0 → v ≡ cond (eqb s 0) (i + 1) s
+pub entered : (class slot : List ℕ) (i x : ℕ) {s v : ℕ} → s ≡ getD slot x 0 → v ≡ come s i
     → Entered class slot i x (set class i (v - 1)) (set slot x v)
 entered class slot i x p q = record { slot-now = rw (q, p); class-now = rw (q, p) }
 
@@ -104,7 +102,7 @@ module _ (t : List ℕ) {n i : ℕ} {before class slot : List ℕ} (k : ℕ) (p 
   pub split-room : n ≤ mostRecords → Roomy (placeAt t class k) i class slot
   split-room h = let r = passing-room p l h in record { few = r .few; a-place = r .a-place; a-slot = rw place-now at (r .a-slot) }
 
-  pub split-goes : {class′ slot′ : List ℕ} → Entered class slot i (placeAt t class k i) class′ slot′ → Passing (placeAt t before k) n (i + 1) before class′ slot′
+  pub split-goes : {class′ slot′ : List ℕ} → Split t k i class slot class′ slot′ → Passing (placeAt t before k) n (i + 1) before class′ slot′
   split-goes s = passing-goes p l (rw place-now s)
 
 -- ---- from bit to bit

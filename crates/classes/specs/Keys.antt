@@ -1,14 +1,14 @@
 -- The key of a record, its variable, low and high as one number of 40 bits; and its leading bits, all but the last k.
-use Prim.Native.Nat.{ℕ, suc, _+_, _-_, _*_, _/_, _%_, _^_, _≤_, _<_}
+use Prim.Native.Nat.{ℕ, _+_, _-_, _*_, _/_, _%_, _^_, _≤_, _<_}
 use mathlib.Core.List.{List}
 use mathlib.Core.Path.{_≡_, refl, ap, sym, _∙_}
 use native.Mathlib.Nat.{div-div-eq-div-mul, pow-suc}
 use native.Mathlib.Numerals.{add-one}
 use native.Mathlib.Omega.{arith}
-use lib.ListN.{length, getD}
+use lib.ListN.{getD}
 use Rattle.diagrams.specs.Layout.{mostRecords, variableAt, lowAt, highAt}
-use Rattle.classes.specs.Classes.{Classes, Alike, classOf, class-within, class-key, key-class, classes-alike}
-use Rattle.classes.specs.Pass.{slots}
+use Rattle.classes.specs.Classes.{Classes, Alike, class-within, class-key, key-class, classes-alike}
+use Rattle.classes.specs.Pass.{slots, Entered}
 
 abbrev pub keyAt : List ℕ → ℕ → ℕ
 keyAt t i = variableAt t i + 256 * (lowAt t i + 65536 * highAt t i)
@@ -27,6 +27,13 @@ rest = 27
 -- a slot for each class so far and bit
 unfoldable pub placeAt : List ℕ → List ℕ → ℕ → ℕ → ℕ
 placeAt t class k i = 2 * getD class i 0 + bitAt t k i
+
+-- record i goes to the slot of its leading bits, and to that of its class so far and its bit k
+abbrev pub Led : List ℕ → ℕ → List ℕ → List ℕ → List ℕ → List ℕ → Type 0
+Led t i class slot class′ slot′ = Entered class slot i (part t rest i) class′ slot′
+
+abbrev pub Split : List ℕ → ℕ → ℕ → List ℕ → List ℕ → List ℕ → List ℕ → Type 0
+Split t k i class slot class′ slot′ = Entered class slot i (placeAt t class k i) class′ slot′
 
 -- ---- there is a slot for each place
 

@@ -8,7 +8,6 @@ use native.Mathlib.Nat.{not-suc-le-zero}
 use native.Mathlib.Numerals.{add-one}
 use native.Mathlib.Omega.{arith}
 use borrow.Author.Count.{below-more}
-use borrow.Author.Needs.{needs}
 use borrow.Author.Tests.{eq-eqb, ne-eqb, lt-ltb, le-ltb}
 use lib.Dec.{eqb, ltb}
 use lib.ListN.{length, getD, set, replicate, length-set, length-replicate, getD-replicate}
@@ -26,8 +25,8 @@ slots = 2 * mostRecords
 unfoldable pub held : (ℕ → ℕ) → ℕ → ℕ → ℕ
 held place x n = cond (ltb (first (λ j. eqb (place j) x) n) n) (suc (first (λ j. eqb (place j) x) n)) 0
 
--- what it holds once entry i has come: what it held, or that entry where it held none
-abbrev come : ℕ → ℕ → ℕ
+-- what a slot that held s holds once entry i has come: what it held, or that entry where it held none
+abbrev pub come : ℕ → ℕ → ℕ
 come s i = cond (eqb s 0) (i + 1) s
 
 module _ (place : ℕ → ℕ) (x n : ℕ) where
@@ -61,7 +60,9 @@ module _ (place : ℕ → ℕ) (x n : ℕ) where
           eq-eqb (place (first (here place x n) n)) x (ap place q ∙ e))
 
       same : first (here place x n) (n + 1) ≡ first (here place x n) n
-      same = first-at (here place x n) (n + 1) (first (here place x n) n) (first-passed (here place x n) n) holds (omega (arith, first-within (here place x n) n))
+      same =
+          first-at (here place x n) (n + 1) (first (here place x n) n) (first-passed (here place x n) n) holds
+          (omega (arith, first-within (here place x n) n))
 
   held-there : (place n ≡ x → ⊥) → held place x (n + 1) ≡ held place x n
   held-there d =
@@ -96,8 +97,12 @@ pub record Passing (place : ℕ → ℕ) (n i : ℕ) (before class slot : List �
   pub left : (k : ℕ) → i ≤ k → getD class k 0 ≡ getD before k 0
   pub holds : (x : ℕ) → x < slots → getD slot x 0 ≡ held place x i
 
+-- before the first entry
+abbrev pub Ready : (ℕ → ℕ) → ℕ → List ℕ → List ℕ → Type 0
+Ready place n class slot = Passing place n 0 class class slot
+
 pub passing-begins : {place : ℕ → ℕ} {n : ℕ} {class slot : List ℕ} → slot ≡ replicate slots 0 → n ≤ length class
-    → ((k : ℕ) → k < n → place k < slots) → Passing place n 0 class class slot
+    → ((k : ℕ) → k < n → place k < slots) → Ready place n class slot
 unfolding held first
 passing-begins {place} {n} {class} {slot} e l h = record {
   within = zero-le;

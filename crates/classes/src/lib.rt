@@ -1,14 +1,12 @@
 // The class of each record: the first record with its variable, low and high. No hash is asked, so that every table takes the same time: the records are
 // told apart by the leading bits of their keys in one pass, and by one bit more in each of the next.
-ghost use mathlib.Core.Bool.{cond};
 ghost use mathlib.Core.Path.{_≡_};
 ghost use Prim.Native.Nat.{_+_, _*_, _<_, _≤_};
-ghost use lib.Dec.{eqb};
 ghost use lib.ListN.{length, replicate};
 ghost use Rattle.diagrams.specs.Layout.{mostRecords, records, InTable};
 ghost use Rattle.classes.specs.Classes.{Classes};
-ghost use Rattle.classes.specs.Pass.{slots, Entered, Roomy, Passing};
-ghost use Rattle.classes.specs.Keys.{rest, keyAt, part, bitAt, placeAt};
+ghost use Rattle.classes.specs.Pass.{slots, come, Entered, Roomy, Ready};
+ghost use Rattle.classes.specs.Keys.{rest, keyAt, part, bitAt, placeAt, Led, Split};
 use diagrams::MOST_RECORDS;
 use diagrams::RecordNumber;
 use diagrams::wide16;
@@ -16,7 +14,7 @@ use diagrams::wide16;
 // Two slots for each record. With a class for each record they take 24 KiB for 4,096 records, and 48 KiB for 8,192.
 const SLOTS: usize = 2 * MOST_RECORDS;
 
-// The bits of a key that follow those of the first pass.
+// A key has 40 bits: the first pass goes by the 13 that lead, for which there are slots, each of the others by one of these.
 const REST: usize = 27;
 
 // Bit k of the key of record i.
@@ -36,10 +34,10 @@ fn bit(table: &[u8], i: RecordNumber, k: usize) -> usize
     (high.0 >> (k - 24)) % 2
 }
 
-// What stands in a slot, or entry i where nothing does.
+// What stands in a slot once entry i has come to it: what stood there, or entry i where nothing did.
 fn first_come(s: usize, i: usize) -> usize
     requires { ⌜ (s < 65536) × (i < 65535) ⌝ }
-    ensures { λ v. ⌜ (v ≡ cond (eqb s 0) (i + 1) s) × ((1 ≤ v) × (v < 65536)) ⌝ }
+    ensures { λ v. ⌜ (v ≡ come s i) × ((1 ≤ v) × (v < 65536)) ⌝ }
 {
     if s == 0 { i + 1 } else { s }
 }
@@ -63,14 +61,14 @@ fn no_slots() -> [u16; SLOTS]
 // Record i goes to the slot of its leading bits.
 fn lead(table: &[u8], class: &mut [u16], slot: &mut [u16], i: RecordNumber)
     requires { ⌜ InTable (now table) (i .0) × Roomy (part (now table) rest) (i .0) (now class) (now slot) ⌝ }
-    ensures { λ _. ⌜ Entered (now (class .entry)) (now (slot .entry)) (i .0) (part (now (table .entry)) rest (i .0)) (now (class .exit)) (now (slot .exit)) ⌝ }
+    ensures { λ _. ⌜ Led (now (table .entry)) (i .0) (now (class .entry)) (now (slot .entry)) (now (class .exit)) (now (slot .exit)) ⌝ }
 {
     let x = (i.variable(table).0 + 256 * (i.low(table).0 + 65536 * i.high(table).0)) >> REST;
     enter(class, slot, i.0, x);
 }
 
 fn first_pass(table: &[u8], class: &mut [u16], slot: &mut [u16])
-    requires { ⌜ (records (now table) ≤ mostRecords) × Passing (part (now table) rest) (records (now table)) 0 (now class) (now class) (now slot) ⌝ }
+    requires { ⌜ (records (now table) ≤ mostRecords) × Ready (part (now table) rest) (records (now table)) (now class) (now slot) ⌝ }
     ensures { λ _. ⌜ Classes (part (now (table .entry)) rest) (records (now (table .entry))) (now (class .exit)) ⌝ }
 {
     let m = diagrams::count_records(table);
@@ -84,7 +82,7 @@ fn first_pass(table: &[u8], class: &mut [u16], slot: &mut [u16])
 // Record i goes to the slot of its class so far and its bit k.
 fn split(table: &[u8], class: &mut [u16], slot: &mut [u16], k: usize, i: RecordNumber)
     requires { ⌜ (InTable (now table) (i .0) × (k < rest)) × Roomy (placeAt (now table) (now class) k) (i .0) (now class) (now slot) ⌝ }
-    ensures { λ _. ⌜ Entered (now (class .entry)) (now (slot .entry)) (i .0) (placeAt (now (table .entry)) (now (class .entry)) k (i .0)) (now (class .exit)) (now (slot .exit)) ⌝ }
+    ensures { λ _. ⌜ Split (now (table .entry)) k (i .0) (now (class .entry)) (now (slot .entry)) (now (class .exit)) (now (slot .exit)) ⌝ }
 {
     let at = i.0;
     let x = 2 * wide16(class[at]) + bit(table, i, k);
@@ -92,7 +90,7 @@ fn split(table: &[u8], class: &mut [u16], slot: &mut [u16], k: usize, i: RecordN
 }
 
 fn pass(table: &[u8], class: &mut [u16], slot: &mut [u16], k: usize)
-    requires { ⌜ ((records (now table) ≤ mostRecords) × (k < rest)) × Passing (placeAt (now table) (now class) k) (records (now table)) 0 (now class) (now class) (now slot) ⌝ }
+    requires { ⌜ ((records (now table) ≤ mostRecords) × (k < rest)) × Ready (placeAt (now table) (now class) k) (records (now table)) (now class) (now slot) ⌝ }
     ensures { λ _. ⌜ Classes (placeAt (now (table .entry)) (now (class .entry)) k) (records (now (table .entry))) (now (class .exit)) ⌝ }
 {
     let m = diagrams::count_records(table);
@@ -103,6 +101,7 @@ fn pass(table: &[u8], class: &mut [u16], slot: &mut [u16], k: usize)
     }
 }
 
+// The classes by the leading bits.
 fn begin(table: &[u8], class: &mut [u16])
     requires { ⌜ (records (now table) ≤ mostRecords) × (records (now table) ≤ length (now class)) ⌝ }
     ensures { λ _. ⌜ Classes (part (now (table .entry)) rest) (records (now (table .entry))) (now (class .exit)) ⌝ }
@@ -111,7 +110,7 @@ fn begin(table: &[u8], class: &mut [u16])
     first_pass(table, class, &mut slot);
 }
 
-// By bit k as well.
+// The classes by one bit more, bit k.
 fn refine(table: &[u8], class: &mut [u16], k: usize)
     requires { ⌜ ((records (now table) ≤ mostRecords) × (k < rest)) × Classes (part (now table) (k + 1)) (records (now table)) (now class) ⌝ }
     ensures { λ _. ⌜ Classes (part (now (table .entry)) k) (records (now (table .entry))) (now (class .exit)) ⌝ }
@@ -120,6 +119,7 @@ fn refine(table: &[u8], class: &mut [u16], k: usize)
     pass(table, class, &mut slot, k);
 }
 
+// The classes by all bits.
 pub fn classes(table: &[u8], class: &mut [u16])
     requires { ⌜ (records (now table) ≤ mostRecords) × (records (now table) ≤ length (now class)) ⌝ }
     ensures { λ _. ⌜ Classes (keyAt (now (table .entry))) (records (now (table .entry))) (now (class .exit)) ⌝ }

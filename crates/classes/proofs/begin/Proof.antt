@@ -11,6 +11,10 @@ begin-spec =
     (tie.spec
     (λ c κs. search needs)
     (λ c. search needs)
-    (λ c κs. let s = c .before .before in (search needs, passing-begins (s .no-slots .ensures) (omega arith) (λ k h. lead-small _ (λ x. omega (arith, s .before .before .shared-slice-known .given x)) k)))
+    (λ c κs. let s = c .before .before in (
+      search needs,
+      passing-begins (s .no-slots .ensures) (omega arith)
+          (λ k h. lead-small _ (λ x. omega (arith, s .before .before .shared-slice-known .given x)) k),
+    ))
     (λ c. search needs)
     (λ c. search needs))

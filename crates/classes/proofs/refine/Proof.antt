@@ -12,6 +12,8 @@ refine-spec =
     (tie.spec
     (λ c κs. search needs)
     (λ c. search needs)
-    (λ c κs. let s = c .before .before in (search needs, passing-begins (s .no-slots .ensures) (omega arith) (place-small _ _ _ (s .before .before .before .pre .1) (omega arith))))
+    (λ c κs. let s = c .before .before in
+    (search needs, passing-begins (s .no-slots .ensures) (omega arith) (place-small _ _ _ (s .before .before .before .pre .1) (omega arith))))
     (λ c. search needs)
-    (λ c. let s = c .before .before .before in classes-alike (place-alike _ _ _ (s .before .before .before .before .before .before .pre .1)) (s .pass .ensures)))
+    (λ c. let s = c .before .before .before in
+    classes-alike (place-alike _ _ _ (s .before .before .before .before .before .before .pre .1)) (s .pass .ensures)))

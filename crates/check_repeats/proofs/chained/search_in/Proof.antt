@@ -12,7 +12,8 @@ pub search-in-spec : {M : Type 1} → statement M
 search-in-spec =
     tie.close
     (tie.spec
-    (λ table head₀ link₀ m steps₀ i₀ head link steps i. (Scan (repeats table) m i × Chained (bucketAt table) mostRecords i head link) × (steps ≤ 2 * mostRecords))
+    (λ table head₀ link₀ m steps₀ i₀ head link steps i.
+    (Scan (repeats table) m i × Chained (bucketAt table) mostRecords i head link) × (steps ≤ 2 * mostRecords))
     (λ table head₀ link₀ m steps₀ i₀ head link steps i. m - i)
     (λ c κs. search searching)
     (λ c. search searching)
