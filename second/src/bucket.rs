@@ -4,11 +4,7 @@
 
 use crate::layout::Record;
 
-const BUCKETS: usize = 8_192;
-
-/// A bucket with so many records is crowded: the library then searches it in
-/// another way.
-pub const FEWEST_OF_A_CROWD: usize = 17;
+pub const BUCKETS: usize = 8_192;
 
 /// The library's hash, of the three numbers as they are stored.
 pub fn bucket(record: Record) -> usize {

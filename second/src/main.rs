@@ -10,6 +10,7 @@
 
 mod bucket;
 mod by_hand;
+mod chains;
 mod compare;
 mod count;
 mod counts_kept;

@@ -2,7 +2,7 @@
 //! some of them alike, almost alike, or of one bucket of the library. All of
 //! them pass the checks before it.
 
-use crate::bucket::FEWEST_OF_A_CROWD;
+use crate::chains::{FEWEST_FOR_CHAINS, FEWEST_OF_A_CROWD};
 use crate::generate::{all_used, moved};
 use crate::input::Input;
 use crate::layout::{Record, RecordNumber, Reference, MOST_RECORDS, MOST_ROOTS};
@@ -49,11 +49,31 @@ struct Kind {
     seating: Seating,
     source: Source,
     pattern: Pattern,
+    beside: Beside,
+}
+
+impl Kind {
+    /// It needs no free record, and a crowd can only stand beside.
+    fn is_often_full(&self) -> bool {
+        !matches!(self.seating, FirstUsed) && !matches!(self.source, OneBucket)
+    }
+
+    /// Full tables take the library long: there are some dozens in all.
+    fn full_once_in(&self) -> usize {
+        if self.is_often_full() {
+            30
+        } else {
+            250
+        }
+    }
 }
 
 /// The added records in rising record number: those with the same entry are
 /// alike. The entries are 0 and up, none left out.
 type Pattern = fn(&mut Random) -> Vec<usize>;
+
+/// The pattern of others, of one bucket, that stand anywhere besides.
+type Beside = fn(&[usize], &mut Random) -> Vec<usize>;
 
 /// Where the different ones among them come from.
 #[derive(Clone, Copy)]
@@ -69,10 +89,27 @@ const fn kind(name: &'static str, seating: Seating, source: Source, pattern: Pat
         seating,
         source,
         pattern,
+        beside: none_or_a_crowd,
     }
 }
 
-const KINDS: [Kind; 25] = [
+/// Two that are alike, and a crowd that isn't theirs.
+const fn with_a_crowd(name: &'static str, seating: Seating) -> Kind {
+    Kind {
+        beside: |_, random| crowd(random),
+        ..kind(name, seating, Any, pair)
+    }
+}
+
+/// A kind whose tables take about as many steps as the chains are given.
+const fn near_the_limit(name: &'static str, pattern: Pattern) -> Kind {
+    Kind {
+        beside: ten_or_so,
+        ..kind(name, Anywhere, OneBucket, pattern)
+    }
+}
+
+const KINDS: [Kind; 29] = [
     kind("records 0 and 1 alike", FirstRecords, Any, pair),
     kind("first two used alike, others free", FirstUsed, Any, pair),
     kind("last two records alike", LastRecords, Any, pair),
@@ -141,6 +178,14 @@ const KINDS: [Kind; 25] = [
     kind("crowd, two repeats in it", Anywhere, OneBucket, |random| {
         two_amid(crowd(random), random)
     }),
+    with_a_crowd("crowd, last two records alike", LastRecords),
+    with_a_crowd("crowd, first and last record alike", BothEnds),
+    near_the_limit("not quite a crowd", |_| {
+        different_ones(FEWEST_OF_A_CROWD - 1)
+    }),
+    near_the_limit("not quite a crowd, alike at the end", |_| {
+        at_the_end(different_ones(FEWEST_OF_A_CROWD - 2))
+    }),
 ];
 
 /// Two are alike as their kind says, and two of a crowd beside them, the later
@@ -151,6 +196,12 @@ const LOWER_BESIDE: &str = "a lower repeat in a crowd beside";
 pub fn kind_names() -> impl Iterator<Item = &'static str> {
     let names = KINDS.iter().map(|kind| kind.name);
     names.chain([LOWER_BESIDE])
+}
+
+/// Those that are often made full.
+pub fn often_full() -> impl Iterator<Item = &'static str> {
+    let kinds = KINDS.iter().filter(|kind| kind.is_often_full());
+    kinds.map(|kind| kind.name)
 }
 
 pub fn sample(random: &mut Random) -> Sample {
@@ -169,15 +220,20 @@ fn of_kind(kind: &'static Kind, random: &mut Random) -> Sample {
 
 fn drawn(kind: &'static Kind, random: &mut Random) -> Option<Sample> {
     let pattern = (kind.pattern)(random);
-    let beside = beside(&pattern, random);
-    let (added, crowd) = (pattern.len(), beside.len());
-    let base = base(added + crowd, random);
+    let full = random.once_in(kind.full_once_in());
+    let beside = if full && random.coin() {
+        a_crowd(&pattern, random)
+    } else {
+        (kind.beside)(&pattern, random)
+    };
+    let (added, more) = (pattern.len(), beside.len());
+    let base = base(full, added + more, random);
     let used = base.used_numbers().len();
-    let records = record_count(used + added + crowd, random);
-    let free = records - used - added - crowd;
+    let records = record_count(used + added + more, random);
+    let free = records - used - added - more;
     let mut seats = seats(kind.seating, records, free, added, random)?;
     let mut others = seats.others.split_off(used);
-    others.truncate(crowd);
+    others.truncate(more);
     others.sort();
 
     let mut input = moved(&base, records, seats.others);
@@ -250,28 +306,40 @@ fn earlier_of(pattern: &[usize], later: usize) -> Option<usize> {
 
 /// So many of one bucket are found in small tables too.
 const FEW_OF_A_BUCKET: usize = 4;
+/// So many are found only where there are hundreds of records besides.
+const MANY_OF_A_BUCKET: usize = 100;
 
 /// A whole table to add to, large where many of one bucket are to be found.
-fn base(added: usize, random: &mut Random) -> Input {
+fn base(full: bool, added: usize, random: &mut Random) -> Input {
     let room = MOST_RECORDS - added;
     let used = match random.below(100) {
-        0..=1 => room,
-        2 => random.between(1_000, room),
-        3..=25 => random.between(200, 700),
+        _ if full => room,
+        0 => random.between(1_000, room),
+        _ if added > MANY_OF_A_BUCKET => random.between(450, 650),
+        1..=15 => random.between(200, 700),
         _ if added > FEW_OF_A_BUCKET => random.between(150, 300),
-        26..=65 => random.below(14),
+        16..=50 => about_as_chains_need(random) - added,
+        51..=75 => random.below(14),
         _ => random.below(100),
     };
     all_used(used, random)
 }
 
+/// As many records as a search by chains needs, one fewer or one more.
+fn about_as_chains_need(random: &mut Random) -> usize {
+    random.between(FEWEST_FOR_CHAINS - 1, FEWEST_FOR_CHAINS + 1)
+}
+
 /// How many records the table has got: none free, some or many, or all that
 /// there can be.
 fn record_count(without_free: usize, random: &mut Random) -> usize {
-    let free = match random.below(150) {
-        0..=49 => 0,
-        50..=99 => random.between(0, without_free),
-        100..=148 => random.between(without_free, 4 * without_free),
+    let free = match random.below(300) {
+        0..=99 => 0,
+        100..=199 if without_free < FEWEST_FOR_CHAINS => {
+            about_as_chains_need(random) - without_free
+        }
+        100..=199 => random.between(0, without_free),
+        200..=298 => random.between(without_free, 4 * without_free),
         _ => MOST_RECORDS,
     };
     (without_free + free).min(MOST_RECORDS)
@@ -316,32 +384,24 @@ fn around_a_third(_: &mut Random) -> Vec<usize> {
     vec![0, 1, 0]
 }
 
-/// A crowd that stands somewhere in the table besides, or none. Two of it are
-/// alike now and then, where two of the pattern are: the lower place counts.
-fn beside(pattern: &[usize], random: &mut Random) -> Vec<usize> {
-    let repeats = (1..pattern.len()).any(|later| earlier_of(pattern, later).is_some());
-    match random.below(20) {
-        0..=2 if repeats => amid(crowd(random), random),
-        0..=6 => crowd(random),
-        _ => Vec::new(),
-    }
+fn different_ones(count: usize) -> Vec<usize> {
+    (0..count).collect()
 }
 
-/// Different ones, and no crowd; often just not one, and with one more it is.
+/// Different ones, and by far no crowd.
 fn some(random: &mut Random) -> Vec<usize> {
-    let most = FEWEST_OF_A_CROWD - 1;
-    let fewest = if random.coin() { most - 1 } else { 2 };
-    (0..random.between(fewest, most)).collect()
+    let most = if random.coin() { 10 } else { 40 };
+    different_ones(random.between(2, most))
 }
 
 /// Different ones: a crowd, mostly just so.
 fn crowd(random: &mut Random) -> Vec<usize> {
-    let more = match random.below(10) {
-        0 => 100,
-        1..=4 => 20,
-        _ => 3,
+    let most = match random.below(10) {
+        0 => 400,
+        1..=3 => 220,
+        _ => 140,
     };
-    (0..FEWEST_OF_A_CROWD + random.below(more)).collect()
+    different_ones(random.between(FEWEST_OF_A_CROWD, most))
 }
 
 fn in_front(mut chain: Vec<usize>) -> Vec<usize> {
@@ -379,6 +439,33 @@ fn twice_amid(mut chain: Vec<usize>, random: &mut Random) -> Vec<usize> {
 /// Two of them once more, or one of them twice more.
 fn two_amid(chain: Vec<usize>, random: &mut Random) -> Vec<usize> {
     amid(amid(chain, random), random)
+}
+
+// The patterns of what stands besides.
+
+fn none_or_a_crowd(pattern: &[usize], random: &mut Random) -> Vec<usize> {
+    if random.once_in(5) {
+        a_crowd(pattern, random)
+    } else {
+        Vec::new()
+    }
+}
+
+/// Two of the crowd are alike mostly where two of the pattern are: the lower
+/// place counts.
+fn a_crowd(pattern: &[usize], random: &mut Random) -> Vec<usize> {
+    let repeats = (1..pattern.len()).any(|later| earlier_of(pattern, later).is_some());
+    if repeats && !random.once_in(3) {
+        amid(crowd(random), random)
+    } else {
+        crowd(random)
+    }
+}
+
+/// With those few steps by chance that hundreds of records take, they make up
+/// for the one that a crowd lacks.
+fn ten_or_so(_: &[usize], random: &mut Random) -> Vec<usize> {
+    different_ones(random.between(10, 11))
 }
 
 #[cfg(test)]
