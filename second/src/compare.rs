@@ -4,6 +4,7 @@ pub mod check;
 pub mod count;
 pub mod program;
 pub mod read;
+pub mod repeats;
 pub mod run;
 pub mod show;
 pub mod swap;

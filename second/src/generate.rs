@@ -87,13 +87,48 @@ pub fn deep(random: &mut Random) -> Input {
     in_a_table(&diagram, n, free, random)
 }
 
+/// A random accepted input with no free record and with so many used ones, or
+/// fewer where the variables and roots do not allow as many.
+pub fn all_used(used: usize, random: &mut Random) -> Input {
+    let shape = match used {
+        0..80 => Shape {
+            n: random.between(1, MOST_VARIABLES),
+            ..with_room_for_roots(used, random)
+        },
+        80..1_000 => with_room_for_roots(used, random),
+        _ => Shape {
+            used,
+            free: 0,
+            ..brimful(random)
+        },
+    };
+    of_shape(&shape, random).0
+}
+
+/// Many levels, and half of the roots at most.
+fn with_room_for_roots(used: usize, random: &mut Random) -> Shape {
+    Shape {
+        n: random.between(MOST_VARIABLES / 2, MOST_VARIABLES),
+        used,
+        free: 0,
+        most_tops: random.between(1, MOST_ROOTS / 2),
+        function_once_in: random.between(1, 3),
+    }
+}
+
 /// The same diagram with so many free records, and its records at random
 /// places among them.
 pub fn with_free(input: &Input, free: usize, random: &mut Random) -> Input {
-    let used: Vec<(RecordNumber, Record)> = input.store().used().collect();
-    let records = used.len() + free;
+    let records = input.used_numbers().len() + free;
     let mut numbers: Vec<RecordNumber> = (0..records).map(RecordNumber).collect();
     random.shuffle(&mut numbers);
+    moved(input, records, numbers)
+}
+
+/// The same diagram in a table of so many records, its own at the first of
+/// these numbers and the others free.
+pub fn moved(input: &Input, records: usize, numbers: Vec<RecordNumber>) -> Input {
+    let used: Vec<(RecordNumber, Record)> = input.store().used().collect();
     let old_numbers = used.iter().map(|&(number, _)| number);
     let new_numbers: HashMap<RecordNumber, RecordNumber> = old_numbers.zip(numbers).collect();
     let moved = |reference: Reference| match reference.record() {

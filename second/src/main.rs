@@ -8,7 +8,9 @@
 //! to what it must keep. The cases made by hand are in `edges`, `sheet`,
 //! `depths` and `texts`; the rest makes random ones.
 
+mod bucket;
 mod by_hand;
+mod chains;
 mod compare;
 mod count;
 mod counts_kept;
@@ -26,10 +28,13 @@ mod lists;
 mod machine;
 mod model;
 mod plans;
+mod possible;
 mod printed;
 mod random;
 mod refusals;
+mod repeats;
 mod sample;
+mod seats;
 mod share;
 mod sheet;
 mod slice;
@@ -47,55 +52,62 @@ use crate::model::Question;
 use crate::tally::Tally;
 
 const USAGE: &str = "\
-usage: compare library ASK [check | read | show | swap | run | count] [number of random questions]
+usage: compare library ASK [check | read | show | swap | run | count | repeats] [number of random questions]
        compare program TRIP [number of random runs]
-ASK: the program of ask.c, linked with the library; without a word after it: all six.
+ASK: the program of ask.c, linked with the library; without a word after it: all seven.
 RELAY_RUN names x86_64/run where these programs can't be run by themselves.";
 
 /// A comparison that a word asks for.
 struct Part {
     word: &'static str,
-    is_asked_by: fn(&Question) -> bool,
+    /// Which cases by hand are its own; none where they are those of others.
+    is_asked_by: Option<fn(&Question) -> bool>,
     questions: u64,
     compare: fn(u64) -> Result<Tally, String>,
 }
 
-const PARTS: [Part; 6] = [
+const PARTS: [Part; 7] = [
     Part {
         word: "check",
-        is_asked_by: |question| matches!(question, Question::Check),
+        is_asked_by: Some(|question| matches!(question, Question::Check)),
         questions: compare::check::QUESTIONS,
         compare: compare::check::compare,
     },
     Part {
         word: "read",
-        is_asked_by: |question| matches!(question, Question::Read { .. }),
+        is_asked_by: Some(|question| matches!(question, Question::Read { .. })),
         questions: compare::read::QUESTIONS,
         compare: compare::read::compare,
     },
     Part {
         word: "show",
-        is_asked_by: |question| matches!(question, Question::Show { .. }),
+        is_asked_by: Some(|question| matches!(question, Question::Show { .. })),
         questions: compare::show::QUESTIONS,
         compare: compare::show::compare,
     },
     Part {
         word: "swap",
-        is_asked_by: |question| matches!(question, Question::Swap { .. }),
+        is_asked_by: Some(|question| matches!(question, Question::Swap { .. })),
         questions: compare::swap::QUESTIONS,
         compare: compare::swap::compare,
     },
     Part {
         word: "run",
-        is_asked_by: |question| matches!(question, Question::Run { .. }),
+        is_asked_by: Some(|question| matches!(question, Question::Run { .. })),
         questions: compare::run::QUESTIONS,
         compare: compare::run::compare,
     },
     Part {
         word: "count",
-        is_asked_by: |question| matches!(question, Question::Count { .. }),
+        is_asked_by: Some(|question| matches!(question, Question::Count { .. })),
         questions: compare::count::QUESTIONS,
         compare: compare::count::compare,
+    },
+    Part {
+        word: "repeats",
+        is_asked_by: None,
+        questions: compare::repeats::QUESTIONS,
+        compare: compare::repeats::compare,
     },
 ];
 
@@ -170,8 +182,10 @@ fn run(wanted: Wanted) -> Result<(), String> {
         Wanted::Library(path, parts, number) => {
             library::start(path)?;
             for part in parts {
-                let cases = by_hand::hold_library_to_cases(part.is_asked_by)?;
-                println!("{} by hand: {cases}, the answers of the rules", part.word);
+                if let Some(is_asked_by) = part.is_asked_by {
+                    let cases = by_hand::hold_library_to_cases(is_asked_by)?;
+                    println!("{} by hand: {cases}, the answers of the rules", part.word);
+                }
                 told((part.compare)(number.unwrap_or(part.questions))?)?;
             }
             Ok(())
