@@ -1,4 +1,4 @@
--- Entries in buckets, each bucket chained from its newest entry back. An entry stands in head and link as its number and 1, so that 0 is none.
+-- Entries in buckets, each bucket chained from its newest entry back. An entry stands in head and link as its number plus 1, so that 0 is none.
 use Prim.Native.Nat.{ℕ, zero, suc, _+_, _≤_, _<_, zero-le}
 use mathlib.Core.Bool.{Bool, true, false, cond}
 use mathlib.Core.List.{List}
@@ -15,7 +15,7 @@ use lib.Seq.{getD-set-same, getD-set-other}
 use Rattle.lists.specs.Says.{decided, either-side, says-eqb}
 use Rattle.chains.specs.Mixed.{buckets}
 
--- the newest of the entries below n that lie in bucket b, and 1; 0 where none does. The bucket of an entry is any function of its number
+-- the newest of the entries below n that lie in bucket b, plus 1; 0 where none does. The bucket of an entry is any function of its number
 unfoldable pub newest : (ℕ → ℕ) → ℕ → ℕ → ℕ
 newest bucket b zero = zero
 newest bucket b (suc n) = cond (eqb (bucket n) b) (suc n) (newest bucket b n)
@@ -122,6 +122,22 @@ chained-more {bucket} {size} {n} {head} {link} {b} {head′} {link′} added c e
         (λ o. rw (added .before, getD-set-other link n k (getD head b 0) 0 (λ z. omega arith)) (c .links k o))
         (λ o. let z : k ≡ n = omega arith in
         rw (z, added .before, getD-set-same link n (getD head b 0) 0 (added .a-place), ← e) (c .heads b (added .a-bucket)))
+
+-- only the buckets of the entries that are there count: a list of keys may grow with its entries
+newest-agrees : (f g : ℕ → ℕ) (b n : ℕ) → ((e : ℕ) → e < n → f e ≡ g e) → newest f b n ≡ newest g b n
+unfolding newest
+newest-agrees f g b zero h = refl
+newest-agrees f g b (suc n) h = rw (h n (omega arith), newest-agrees f g b n (λ e l. h e (omega arith)))
+
+pub chained-agrees : (f g : ℕ → ℕ) {size n : ℕ} {head link : List ℕ} → ((e : ℕ) → e < n → f e ≡ g e) → Chained f size n head link
+    → Chained g size n head link
+chained-agrees f g {size} {n} h c = record {
+  all-buckets = c .all-buckets;
+  all-places = c .all-places;
+  within = c .within;
+  heads = λ b l. c .heads b l ∙ newest-agrees f g b n h;
+  links = λ e l. c .links e l ∙ ap (λ b. newest f b e) (h e l) ∙ newest-agrees f g (g e) e (λ k m. h k (omega arith));
+}
 
 -- `search chaining` answers the needs of a function that makes the chains
 pub ruleset chaining = (chained-none, chained-more, needs)

@@ -1,4 +1,5 @@
--- The bucket of three numbers. Nothing is asked of it but that it is a bucket: a better mixture changes this line and its code.
+-- The bucket of three numbers. Nothing is asked of it but that it is a bucket: a better mixture changes this line
+-- and its code, and those who make tables by it: second/src/bucket.rs and bench/src/crowded.rs.
 use Prim.Native.Nat.{ℕ, _+_, _*_, _/_, _%_}
 use Rattle.diagrams.specs.Layout.{mostRecords}
 

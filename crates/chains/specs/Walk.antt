@@ -92,5 +92,5 @@ walk-ends {q} {bucket} {b} {n} {e} {found} w z =
     passed : Passed q found
     passed = record { at = λ k l. w .passed k (omega arith) l }
 
--- `search walking` answers every need of such a loop
+-- `search walking` answers every need of such a loop, once it is told that only entries of the bucket pass
 pub ruleset walking = (walk-begins, walk-falls, walk-goes, walk-ends, steps-begin, steps-go, needs)

@@ -1,5 +1,5 @@
-// A look-up by hash, in two lists: the newest entry of each bucket, and the one before each entry in its bucket. An entry stands there as its number and 1,
-// so that 0 is none. Keys are not copied: who looks up walks a chain and compares entry by entry. Nothing is asked of an entry but its bucket.
+// A look-up by hash, in two lists: the newest entry of each bucket, and the one before each entry in its bucket. Entries are 0, 1, 2 and so on, as they are
+// added; an entry stands in the lists as its number plus 1, so that 0 is none. Keys are not copied: who looks up walks a chain and compares entry by entry.
 ghost use mathlib.Core.Bool.{cond};
 ghost use mathlib.Core.Path.{_≡_};
 ghost use Prim.Native.Nat.{_+_, _<_};
@@ -8,8 +8,8 @@ ghost use Rattle.chains.specs.Chains.{Added};
 ghost use Rattle.chains.specs.Mixed.{buckets, mixed};
 use diagrams::MOST_RECORDS;
 
-// Two for each record, so that a chain has half an entry on average in a full table. Heads and links of all records take 24 KiB for 4,096 records, and
-// 48 KiB for 8,192.
+// Two for each record, so that a chain has half an entry on average in a full table. Heads and links of all records take 24,578 bytes for 4,096 records,
+// and 49,154 for 8,192.
 pub const BUCKETS: usize = 2 * MOST_RECORDS;
 
 // No entry in any bucket. The last bucket, which `mix` never gives, is for entries that nobody looks up.
@@ -36,9 +36,9 @@ pub fn add(head: &mut [u16], link: &mut [u16], b: usize, e: usize)
     head[b] = (e + 1) as u16;
 }
 
-// x where the flag says so, else y.
-pub fn pick(b: bool, x: usize, y: usize) -> usize
-    ensures { λ r. ⌜ r ≡ cond b x y ⌝ }
+// The entry at hand where it passes, else the one that was found before: a function, so that the loop of a walk has one way through.
+pub fn pick(passes: bool, entry: usize, found: usize) -> usize
+    ensures { λ r. ⌜ r ≡ cond passes entry found ⌝ }
 {
-    if b { x } else { y }
+    if passes { entry } else { found }
 }

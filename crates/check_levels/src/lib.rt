@@ -54,7 +54,7 @@ fn first_not_below_in(table: &[u8], levels: &[u8; Order::CEILING], n: usize) -> 
     m
 }
 
-// The same, of an order as it is stored. Its levels are lent, since an order by value would be copied for each record.
+// The same, of an order as it is stored. Its levels are lent: an order by value would be copied at each call.
 pub fn first_not_below(table: &[u8], order: &[u8]) -> usize
     requires { ⌜ (length (now order) ≤ ceiling) × Permutation (now order) ⌝ }
     ensures { λ x. ⌜ x ≡ first (notBelow (now (table .entry)) (levelOf (now (order .entry)))) (records (now (table .entry))) ⌝ }

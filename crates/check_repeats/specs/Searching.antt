@@ -12,8 +12,8 @@ use Rattle.check_repeats.specs.declared.chained.Walked.{Walked}
 use Rattle.check_repeats.specs.declared.chained.Searched.{Searched}
 use Rattle.check_repeats.specs.declared.chained.Searched.the-variants.{Ended}
 
--- the records before record i are chained
-pub record Chains (t : List ℕ) (i : ℕ) (head link : List ℕ) : Type 0 where
+-- record i is next: those before it are chained
+pub record Next (t : List ℕ) (i : ℕ) (head link : List ℕ) : Type 0 where
   pub inside : InTable t i
   pub few : i < mostRecords
   pub chained : Chained (bucketAt t) mostRecords i head link

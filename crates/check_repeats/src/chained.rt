@@ -5,7 +5,7 @@ ghost use Rattle.diagrams.specs.Layout.{mostRecords, records, InTable};
 ghost use Rattle.chains.specs.Mixed.{buckets};
 ghost use Rattle.chains.specs.Chains.{Chained};
 ghost use Rattle.check_repeats.specs.Buckets.{bucketAt};
-ghost use Rattle.check_repeats.specs.Searching.{Chains, Walks, Looks, Enters, Told};
+ghost use Rattle.check_repeats.specs.Searching.{Next, Walks, Looks, Enters, Told};
 use super::is_same;
 use diagrams::MOST_RECORDS;
 use diagrams::RecordNumber;
@@ -38,7 +38,7 @@ fn bucket(table: &[u8], i: RecordNumber) -> usize
 
 // The first record before i that is the same; i where there is none. b is its bucket.
 fn first_same(table: &[u8], head: &[u16], link: &[u16], b: usize, i: RecordNumber) -> Walked
-    requires { ⌜ Chains (now table) (i .0) (now head) (now link) × ((b ≡ bucketAt (now table) (i .0)) × (b < buckets + 1)) ⌝ }
+    requires { ⌜ Next (now table) (i .0) (now head) (now link) × ((b ≡ bucketAt (now table) (i .0)) × (b < buckets + 1)) ⌝ }
     ensures { λ w. ⌜ Walks (now (table .entry)) (i .0) w ⌝ }
 {
     let mut found = i.0;
@@ -55,7 +55,7 @@ fn first_same(table: &[u8], head: &[u16], link: &[u16], b: usize, i: RecordNumbe
 
 // The same for a used record. A free one repeats none.
 fn look(table: &[u8], head: &[u16], link: &[u16], b: usize, i: RecordNumber) -> Walked
-    requires { ⌜ Chains (now table) (i .0) (now head) (now link) × ((b ≡ bucketAt (now table) (i .0)) × (b < buckets + 1)) ⌝ }
+    requires { ⌜ Next (now table) (i .0) (now head) (now link) × ((b ≡ bucketAt (now table) (i .0)) × (b < buckets + 1)) ⌝ }
     ensures { λ w. ⌜ Looks (now (table .entry)) (i .0) w ⌝ }
 {
     if i.is_used(table) {
@@ -66,7 +66,7 @@ fn look(table: &[u8], head: &[u16], link: &[u16], b: usize, i: RecordNumber) -> 
 
 // Record i looks, and goes to the front of its bucket.
 fn enter(table: &[u8], head: &mut [u16], link: &mut [u16], i: RecordNumber) -> Walked
-    requires { ⌜ Chains (now table) (i .0) (now head) (now link) ⌝ }
+    requires { ⌜ Next (now table) (i .0) (now head) (now link) ⌝ }
     ensures { λ w. ⌜ Enters (now (table .entry)) (i .0) w (now (head .exit)) (now (link .exit)) ⌝ }
 {
     let b = bucket(table, i);

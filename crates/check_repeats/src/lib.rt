@@ -1,5 +1,5 @@
-// Check 7: the first record that is the same as an earlier one. Three ways find it, with one contract: by chains; without a hash, where the chains are too
-// long; and by a plain search, in a table of few records or of more than the others have room for.
+// Check 7: the first record that is the same as an earlier one. Three ways look for it: by chains, which are given up where they are too long; without a
+// hash, in their place; and by a plain search, in a table of few records or of more than the others have room for.
 ghost use mathlib.Core.Path.{_≡_};
 ghost use Rattle.lists.specs.First.{first};
 ghost use Rattle.diagrams.specs.Layout.{records, InTable};
@@ -12,7 +12,7 @@ mod chained;
 mod classed;
 mod plain;
 
-// Below so many records clearing the heads of the chains takes longer than the plain search.
+// Below about so many records clearing the heads of the chains takes longer than the plain search.
 const FEW: usize = 24;
 
 fn is_same(table: &[u8], i: RecordNumber, j: RecordNumber) -> bool

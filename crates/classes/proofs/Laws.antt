@@ -68,29 +68,26 @@ module _ (t : List ℕ) (k i : ℕ) {v a b : ℕ} (p : v ≡ variableAt t i) (sm
       ∙ above (lowAt t i) (highAt t i) 16 (k - 8) (omega arith) (rw q at fits)
       ∙ ap (λ n. highAt t i / 2 ^ n) z)))
 
-  pub leads : (v + 256 * (a + 65536 * b)) / 2 ^ rest ≡ part t rest i
-  unfolding part
-  leads = rw (p, q, r)
-
-pub ruleset reading-bits = (bit-of-variable, bit-of-low, bit-of-high, leads, needs)
+pub ruleset reading-bits = (bit-of-variable, bit-of-low, bit-of-high, needs)
 
 -- ---- a record in its slot
+pub leads : (t : List ℕ) (i : ℕ) {v a b : ℕ} → v ≡ variableAt t i → a ≡ lowAt t i → b ≡ highAt t i → (v + 256 * (a + 65536 * b)) / 2 ^ rest ≡ part t rest i
+unfolding part
+leads t i p q r = rw (p, q, r)
+
 pub enters-at : {class slot : List ℕ} {i x y : ℕ} {class′ slot′ : List ℕ} → Entered class slot i x class′ slot′ → x ≡ y → Entered class slot i y class′ slot′
 enters-at s e = rw e at s
 
-pub lead-slot : (t : List ℕ) (i x : ℕ) {class slot : List ℕ} → x ≡ part t rest i → Roomy (part t rest) i class slot → x < length slot
-lead-slot t i x e r = omega (arith, r .a-slot)
+pub slot-there : {place : ℕ → ℕ} {i x : ℕ} {class slot : List ℕ} → Roomy place i class slot → x ≡ place i → x < length slot
+slot-there r e = omega (arith, r .a-slot)
 
 pub place-is : (t class : List ℕ) (k i : ℕ) {c b : ℕ} → c ≡ getD class i 0 → b ≡ bitAt t k i → 2 * c + b ≡ placeAt t class k i
 unfolding placeAt
 place-is t class k i p q = rw (p, q)
 
-pub split-slot : (t : List ℕ) (k i x : ℕ) {class slot : List ℕ} → x ≡ placeAt t class k i → Roomy (placeAt t class k) i class slot → x < length slot
-split-slot t k i x e r = omega (arith, r .a-slot)
+pub ruleset leading = (slot-there, enters-at, leads, needs)
 
-pub ruleset leading = (lead-slot, enters-at, leads, needs)
-
-pub ruleset splitting = (split-slot, enters-at, place-is, needs)
+pub ruleset splitting = (slot-there, enters-at, place-is, needs)
 
 -- ---- the passes
 module _ (t : List ℕ) {n i : ℕ} {before class slot : List ℕ} (k : ℕ) (p : Passing (placeAt t before k) n i before class slot) (l : i < n) where

@@ -3,13 +3,12 @@ use Prim.Native.Nat.{ℕ, _≤_, _<_}
 use mathlib.Core.Bool.{Bool, true}
 use mathlib.Core.List.{List}
 use mathlib.Core.Path.{_≡_, ap, sym, _∙_}
-use mathlib.Core.Logic.{⊎-elim}
 use native.Mathlib.Omega.{arith}
-use borrow.Author.Tests.{eqb-true, eq-eqb, ne-eqb}
+use borrow.Author.Tests.{eqb-true, eq-eqb}
 use lib.Dec.{eqb}
 use lib.ListN.{length, getD}
 use Rattle.lists.specs.First.{first, first-at, first-passed, first-holds, first-within, first-agrees}
-use Rattle.lists.specs.Says.{either-side, decided, says-eqb}
+use Rattle.lists.specs.Says.{either-side, agree, says-eqb}
 
 unfoldable pub classOf : (ℕ → ℕ) → ℕ → ℕ
 classOf key i = first (λ j. eqb (key j) (key i)) i
@@ -56,17 +55,11 @@ pub record Alike (f g : ℕ → ℕ) (n : ℕ) : Type 0 where
   pub to : (j i : ℕ) → j < i → i < n → f j ≡ f i → g j ≡ g i
   pub from : (j i : ℕ) → j < i → i < n → g j ≡ g i → f j ≡ f i
 
-same-test : {a b c d : ℕ} → (a ≡ b → c ≡ d) → (c ≡ d → a ≡ b) → eqb a b ≡ eqb c d
-same-test {a} {b} {c} {d} to from =
-    ⊎-elim
-    (λ e. eq-eqb a b e ∙ sym (eq-eqb c d (to e)))
-    (λ h. ne-eqb a b h ∙ sym (ne-eqb c d (λ e. h (from e))))
-    (decided (says-eqb a b))
-
 pub classes-alike : {f g : ℕ → ℕ} {n : ℕ} {class : List ℕ} → Alike f g n → Classes f n class → Classes g n class
 unfolding classOf
 classes-alike {f} {g} {n} a c = record {
   room = c .room;
   each = λ i l. c .each i l
-      ∙ first-agrees (λ j. eqb (f j) (f i)) (λ j. eqb (g j) (g i)) i (λ j h. same-test (a .to j i h l) (a .from j i h l));
+      ∙ first-agrees (λ j. eqb (f j) (f i)) (λ j. eqb (g j) (g i)) i
+      (λ j h. agree (says-eqb (f j) (f i)) (says-eqb (g j) (g i)) (a .to j i h l) (a .from j i h l));
 }

@@ -1,12 +1,13 @@
 -- The key of a record, its variable, low and high as one number of 40 bits; and its leading bits, all but the last k.
-use Prim.Native.Nat.{ℕ, _+_, _-_, _*_, _/_, _%_, _^_, _≤_, _<_}
+use Prim.Native.Nat.{ℕ, _+_, _*_, _/_, _%_, _^_, _≤_, _<_}
 use mathlib.Core.List.{List}
 use mathlib.Core.Path.{_≡_, refl, ap, sym, _∙_}
 use native.Mathlib.Nat.{div-div-eq-div-mul, pow-suc}
 use native.Mathlib.Numerals.{add-one}
 use native.Mathlib.Omega.{arith}
 use lib.ListN.{getD}
-use Rattle.diagrams.specs.Layout.{mostRecords, variableAt, lowAt, highAt}
+use Rattle.diagrams.specs.Layout.{recordSize, mostRecords, variableAt, lowAt, highAt}
+use Rattle.diagrams.specs.Bytes.{Bytes, pair-small}
 use Rattle.classes.specs.Classes.{Classes, Alike, class-within, class-key, key-class, classes-alike}
 use Rattle.classes.specs.Pass.{slots, Entered}
 
@@ -37,12 +38,9 @@ Split t k i class slot class′ slot′ = Entered class slot i (placeAt t class 
 
 -- ---- there is a slot for each place
 
-abbrev Bytes : List ℕ → Type 0
-Bytes t = (x : ℕ) → getD t x 0 < 256
-
 pub lead-small : (t : List ℕ) → Bytes t → (i : ℕ) → part t rest i < slots
 unfolding part
-lead-small t h i = omega (arith, h (8 * i), h (8 * i + 2), h (8 * i + 2 + 1), h (8 * i + 4), h (8 * i + 4 + 1))
+lead-small t b i = omega (arith, b (recordSize * i) .fits, pair-small t (recordSize * i + 2) b, pair-small t (recordSize * i + 4) b)
 
 bit-small : (t : List ℕ) (k i : ℕ) → bitAt t k i < 2
 unfolding bitAt
@@ -58,9 +56,9 @@ half : (t : List ℕ) (k i : ℕ) → part t (k + 1) i ≡ part t k i / 2
 unfolding part
 half t k i = ap (λ p. keyAt t i / p) (ap (λ n. 2 ^ n) (add-one k) ∙ pow-suc 2 k) ∙ sym (div-div-eq-div-mul (keyAt t i) (2 ^ k) 2)
 
-last : (t : List ℕ) (k i : ℕ) → bitAt t k i ≡ part t k i % 2
+bit-is : (t : List ℕ) (k i : ℕ) → bitAt t k i ≡ part t k i % 2
 unfolding bitAt
-last t k i = refl
+bit-is t k i = refl
 
 -- class and bit tell apart what one bit more of the key tells apart
 pub place-alike : (t : List ℕ) (k n : ℕ) {class : List ℕ} → Classes (part t (k + 1)) n class → Alike (placeAt t class k) (part t k) n
@@ -70,10 +68,10 @@ place-alike t k n {class} c = record {
       let s : getD class j 0 ≡ getD class i 0 = omega (arith, bit-small t k j, bit-small t k i) in
       let b : bitAt t k j ≡ bitAt t k i = omega (arith, bit-small t k j, bit-small t k i) in
       let p = class-key (part t (k + 1)) j i (sym (c .each j (omega arith)) ∙ s ∙ c .each i l) in
-      omega (arith, half t k j, half t k i, last t k j, last t k i);
+      omega (arith, half t k j, half t k i, bit-is t k j, bit-is t k i);
   from = λ j i h l e.
       let s = key-class (part t (k + 1)) j i h (half t k j ∙ ap (λ x. x / 2) e ∙ sym (half t k i)) in
-      let b = last t k j ∙ ap (λ x. x % 2) e ∙ sym (last t k i) in
+      let b = bit-is t k j ∙ ap (λ x. x % 2) e ∙ sym (bit-is t k i) in
       omega (arith, c .each j (omega arith), c .each i l);
 }
 

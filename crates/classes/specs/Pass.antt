@@ -1,4 +1,4 @@
--- One pass over n entries, each of which goes to a slot: its class is the first entry that came there. A slot holds that entry's number and 1; 0 is none.
+-- One pass over n entries, each of which goes to a slot: its class is the first entry that came there. A slot holds that entry's number plus 1; 0 is none.
 use Prim.Native.Nat.{ℕ, suc, _+_, _-_, _*_, _≤_, _<_, zero-le}
 use mathlib.Core.Bool.{Bool, true, cond}
 use mathlib.Core.List.{List}
@@ -21,58 +21,57 @@ use Rattle.classes.specs.Classes.{classOf, Classes}
 abbrev pub slots : ℕ
 slots = 2 * mostRecords
 
+-- entry j goes to slot x
+abbrev here : (ℕ → ℕ) → ℕ → ℕ → Bool
+here place x j = eqb (place j) x
+
 -- what slot x holds after n entries
 unfoldable pub held : (ℕ → ℕ) → ℕ → ℕ → ℕ
-held place x n = cond (ltb (first (λ j. eqb (place j) x) n) n) (suc (first (λ j. eqb (place j) x) n)) 0
+held place x n = cond (ltb (first (here place x) n) n) (suc (first (here place x) n)) 0
 
 -- what a slot that held s holds once entry i has come: what it held, or that entry where it held none
 abbrev pub come : ℕ → ℕ → ℕ
 come s i = cond (eqb s 0) (i + 1) s
 
 module _ (place : ℕ → ℕ) (x n : ℕ) where
-  abbrev here : ℕ → Bool
-  here j = eqb (place j) x
-
-  held-none : n ≤ first (λ j. eqb (place j) x) n → held place x n ≡ 0
+  held-none : n ≤ first (here place x) n → held place x n ≡ 0
   unfolding held
-  held-none l = rw (le-ltb (first here n) n l)
+  held-none l = rw (le-ltb (first (here place x) n) n l)
 
-  held-some : first (λ j. eqb (place j) x) n < n → held place x n ≡ suc (first (λ j. eqb (place j) x) n)
+  held-some : first (here place x) n < n → held place x n ≡ suc (first (here place x) n)
   unfolding held
-  held-some l = rw (lt-ltb (first here n) n l)
+  held-some l = rw (lt-ltb (first (here place x) n) n l)
 
-  held-come : {s : ℕ} → s ≡ held place x n → come s n ≡ suc (first (λ j. eqb (place j) x) n)
+  held-come : {s : ℕ} → s ≡ held place x n → come s n ≡ suc (first (here place x) n)
   held-come {s} e =
-      either-side (first here n) n
-      (λ l. let z : s ≡ suc (first here n) = e ∙ held-some l in rw (z, ne-eqb (suc (first here n)) 0 (λ q. omega arith)))
-      (λ l. let z : s ≡ 0 = e ∙ held-none l in let q : first here n ≡ n = omega (arith, first-within here n) in rw (z, q, add-one))
+      either-side (first (here place x) n) n
+      (λ l. let z : s ≡ suc (first (here place x) n) = e ∙ held-some l in rw (z, ne-eqb (suc (first (here place x) n)) 0 (λ q. omega arith)))
+      (λ l. let z : s ≡ 0 = e ∙ held-none l in
+      let q : first (here place x) n ≡ n = omega (arith, first-within (here place x) n) in rw (z, q, add-one))
 
 -- one entry more
 module _ (place : ℕ → ℕ) (x n : ℕ) where
-  held-here : place n ≡ x → held place x (n + 1) ≡ suc (first (λ j. eqb (place j) x) n)
-  held-here e = held-some place x (n + 1) (omega (arith, same, first-within (here place x n) n)) ∙ ap suc same
-    where
-      holds : here place x n (first (here place x n) n) ≡ true
-      holds =
-          either-side (first (here place x n) n) n
-          (first-holds (here place x n) n)
-          (λ l. let q : first (here place x n) n ≡ n = omega (arith, first-within (here place x n) n) in
-          eq-eqb (place (first (here place x n) n)) x (ap place q ∙ e))
+  -- an entry that came first stays the first
+  still : here place x (first (here place x) n) ≡ true → first (here place x) (n + 1) ≡ first (here place x) n
+  still h = first-at (here place x) (n + 1) (first (here place x) n) (first-passed (here place x) n) h (omega (arith, first-within (here place x) n))
 
-      same : first (here place x n) (n + 1) ≡ first (here place x n) n
-      same =
-          first-at (here place x n) (n + 1) (first (here place x n) n) (first-passed (here place x n) n) holds
-          (omega (arith, first-within (here place x n) n))
+  held-here : place n ≡ x → held place x (n + 1) ≡ suc (first (here place x) n)
+  held-here e = held-some place x (n + 1) (omega (arith, still holds, first-within (here place x) n)) ∙ ap suc (still holds)
+    where
+      holds : here place x (first (here place x) n) ≡ true
+      holds =
+          either-side (first (here place x) n) n
+          (first-holds (here place x) n)
+          (λ l. let q : first (here place x) n ≡ n = omega (arith, first-within (here place x) n) in
+          eq-eqb (place (first (here place x) n)) x (ap place q ∙ e))
 
   held-there : (place n ≡ x → ⊥) → held place x (n + 1) ≡ held place x n
   held-there d =
-      either-side (first (here place x n) n) n
-      (λ l. let same : first (here place x n) (n + 1) ≡ first (here place x n) n
-      = first-at (here place x n) (n + 1) (first (here place x n) n) (first-passed (here place x n) n) (first-holds (here place x n) n l) (omega arith) in
+      either-side (first (here place x) n) n
+      (λ l. let same = still (first-holds (here place x) n l) in
       held-some place x (n + 1) (omega arith) ∙ ap suc same ∙ sym (held-some place x n l))
-      (λ l. let q : first (here place x n) n ≡ n = omega (arith, first-within (here place x n) n) in
-      let none : first (here place x n) (n + 1) ≡ n + 1
-      = first-none (here place x n) (n + 1) (passed-more (rw q at (first-passed (here place x n) n)) (ne-eqb (place n) x d)) in
+      (λ l. let q : first (here place x) n ≡ n = omega (arith, first-within (here place x) n) in
+      let none = first-none (here place x) (n + 1) (passed-more (rw q at (first-passed (here place x) n)) (ne-eqb (place n) x d)) in
       held-none place x (n + 1) (omega arith) ∙ sym (held-none place x n l))
 
 -- ---- entry i goes to slot x

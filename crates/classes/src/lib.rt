@@ -1,7 +1,7 @@
-// The class of each record: the first record with its variable, low and high. No hash is asked, so that every table takes the same time: the records are
-// told apart by the leading bits of their keys in one pass, and by one bit more in each of the next.
+// The class of each record: the first record with its variable, low and high. No hash is asked, so that every table of as many records takes the same time: the
+// records are told apart by the leading bits of their keys in one pass, and by one bit more in each of the next.
 ghost use mathlib.Core.Path.{_≡_};
-ghost use Prim.Native.Nat.{_+_, _*_, _<_, _≤_};
+ghost use Prim.Native.Nat.{_+_, _<_, _≤_};
 ghost use lib.ListN.{length, replicate};
 ghost use Rattle.diagrams.specs.Layout.{mostRecords, records, InTable};
 ghost use Rattle.classes.specs.Classes.{Classes};
@@ -11,7 +11,7 @@ use diagrams::MOST_RECORDS;
 use diagrams::RecordNumber;
 use diagrams::wide16;
 
-// Two slots for each record. With a class for each record they take 24 KiB for 4,096 records, and 48 KiB for 8,192.
+// Two slots for each record. With a class for each record they take 24,576 bytes for 4,096 records, and 49,152 for 8,192.
 const SLOTS: usize = 2 * MOST_RECORDS;
 
 // A key has 40 bits: the first pass goes by the 13 that lead, for which there are slots, each of the others by one of these.
@@ -34,7 +34,7 @@ fn bit(table: &[u8], i: RecordNumber, k: usize) -> usize
     (high.0 >> (k - 24)) % 2
 }
 
-// What stands in a slot once entry i has come to it: what stood there, or entry i where nothing did.
+// What stands in a slot once entry i has come to it: what stood there, or i plus 1 where nothing did.
 fn first_come(s: usize, i: usize) -> usize
     requires { ⌜ (s < 65536) × (i < 65535) ⌝ }
     ensures { λ v. ⌜ (v ≡ come s i) × ((1 ≤ v) × (v < 65536)) ⌝ }

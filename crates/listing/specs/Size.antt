@@ -2,21 +2,13 @@
 use Prim.Native.Nat.{ℕ, _+_, _*_, _≤_, _<_}
 use mathlib.Core.List.{List}
 use native.Mathlib.Omega.{arith}
-use mir.Syntax.{w8}
-use mir.Val.{Fits}
 use lib.Dec.{lit≤}
 use lib.ListN.{length, getD}
-use Rattle.diagrams.specs.Layout.{mostRecords, records, rootCount, rootAt, isFree, pairAt}
+use Rattle.diagrams.specs.Layout.{mostRecords, records, rootCount, rootAt, isFree}
+use Rattle.diagrams.specs.Bytes.{Bytes, pair-small}
 use Rattle.texts.specs.Text.{bytes}
 use Rattle.texts.specs.Short.{Short, short, both-short, either-short, turns-short, word-short, decimal-short, numbered-short}
 use Rattle.listing.specs.Text.{variableText, orderLine, fieldsText, contentText, recordLine, rootText, rootsLine, listing}
-
--- every element is a byte
-abbrev pub Bytes : List ℕ → Type 0
-Bytes l = (k : ℕ) → Fits w8 (getD l k 0)
-
-pair-small : (l : List ℕ) (at : ℕ) → Bytes l → pairAt l at < 65536
-pair-small l at b = omega (arith, b at .fits, b (at + 1) .fits)
 
 variable-short : (o : List ℕ) (k : ℕ) → Bytes o → Short (variableText o k) 4
 unfolding variableText

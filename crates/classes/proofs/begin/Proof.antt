@@ -14,7 +14,7 @@ begin-spec =
     (λ c κs. let s = c .before .before in (
       search needs,
       passing-begins (s .no-slots .ensures) (omega arith)
-          (λ k h. lead-small _ (λ x. omega (arith, s .before .before .shared-slice-known .given x)) k),
+          (λ k h. lead-small _ (s .before .before .shared-slice-known .given) k),
     ))
     (λ c. search needs)
     (λ c. search needs))

@@ -1,5 +1,4 @@
 use mathlib.Core.Path.{_∙_}
-use native.Mathlib.Omega.{arith}
 use borrow.Author.Needs.{needs}
 use Rattle.check_repeats.specs.Late.{late-repeats}
 use Rattle.check_repeats.proofs.classed.search.Statement.{statement}
@@ -14,4 +13,4 @@ search-spec =
     (λ c. search needs)
     (λ c κs. search needs)
     (λ c. let s = c .before .before .before in
-    c .first-late .ensures ∙ late-repeats _ (λ x. omega (arith, s .before .before .shared-slice-known .given x)) _ (s .classes .ensures)))
+    c .first-late .ensures ∙ late-repeats _ (s .before .before .shared-slice-known .given) _ (s .classes .ensures)))
