@@ -12,7 +12,8 @@ use Rattle.texts.specs.Text.{bytes}
 use Rattle.texts.specs.Put.{Space}
 use Rattle.texts.specs.Short.{Short, short, both-short, shorter, either-short, word-short, numbered-any}
 use Rattle.listing.specs.Text.{listing}
-use Rattle.listing.specs.Size.{Bytes, listing-short}
+use Rattle.diagrams.specs.Bytes.{Bytes}
+use Rattle.listing.specs.Size.{listing-short}
 use Rattle.program.specs.Text.{swapsText, lackText, answerText, answerLine, isRefused, planLine, planText, storeText, printed}
 use Rattle.program.specs.Program.{mostText, Held}
 
