@@ -1,20 +1,22 @@
 -- Demand 1: every entry answers on any bytes, with one outcome. A refusal has the number of the first check that fails and the first place where it
--- does, and changes nothing. There is no room exactly where more records are needed than are free, and then nothing changes either.
+-- does, and changes nothing. There is no room exactly where the records used afterwards would outnumber the table, which is where more are needed than
+-- are free or die; and then nothing changes either.
 --
 -- `checkOf`, `readOf`, `partOf`, `swapOf` and `runOf` are the outcomes that the contracts of the entries cite. t is the table, r the roots, o the order
 -- and g the target, each as the list of its bytes. An entry's checks are a list: `checkStages`, `readStages`, `swapStages`, `runStages`.
 -- `FailsFirst` of such a list, with k and p: check k fails at place p, at no place before it, and every check before k passes everywhere.
-use Prim.Native.Nat.{ℕ, _+_, _≤_, _<_}
+use Prim.Native.Nat.{ℕ, _+_, _-_, _≤_, _<_}
 use mathlib.Core.Bool.{Bool}
 use mathlib.Core.List.{List}
 use mathlib.Core.Path.{_≡_, ap, sym, _∙_}
 use lib.ListN.{length}
 use Rattle.lists.specs.Apart.{apart}
 use Rattle.lists.specs.Count.{bit}
+use Rattle.diagrams.specs.Layout.{records}
 use Rattle.plans.specs.Inversions.{left}
 use Rattle.plans.specs.Numbered.{planOf}
 use Rattle.checks.specs.Stages.{refusal, FailsFirst}
-use Rattle.checks.specs.Check.{checkStages, checkOf, CheckOutcome}
+use Rattle.checks.specs.Check.{used, checkStages, checkOf, CheckOutcome}
 use Rattle.checks.specs.Usable.{Usable}
 use Rattle.checks.specs.Theorems as check
 use Rattle.checks.specs.declared.Refusal.{Refusal}
@@ -28,9 +30,11 @@ use Rattle.reading.specs.Theorems as read
 use Rattle.reading.specs.Theorems.{Reads}
 use Rattle.reading.specs.declared.ReadAnswer.{ReadAnswer}
 use Rattle.reading.specs.declared.ReadAnswer.the-variants as reads
+use Rattle.swap_rules.specs.Swap.{xAt, yAt}
 use Rattle.swaps.specs.Outcome.{freeIn, lack, isClear, swapStages, swapOf, SwapOutcome}
 use Rattle.swaps.specs.Entry as swap
-use Rattle.swaps.specs.Entry.{Needed}
+use Rattle.swaps.specs.Entry.{Needed, Dying}
+use Rattle.swaps.specs.Bytes.{outnumbers, lacks-slots}
 use Rattle.swaps.specs.declared.Lack.{Lack}
 use Rattle.swaps.specs.declared.SwapAnswer.{SwapAnswer}
 use Rattle.swaps.specs.declared.SwapAnswer.the-variants as swaps
@@ -92,20 +96,24 @@ module _ (t r o : List ℕ) where
     pub swap-refused : (n p : ℕ) → Exactly (swapOf t r o k .answer ≡ swaps.Refused (refusal n p)) (FailsFirst (swapStages t r o k) n p)
     swap-refused n p = record { wherever = λ f. ap (λ s. s .answer) (swap.swap-refuses t r o k n p f); only = swap.swap-refuses-only t r o k n p }
 
-    -- no room exactly for a table that can be used and two of its levels, where more records are needed than are free; with the level and these two numbers
+    -- no room exactly for a table that can be used and two of its levels, where more records are needed than are free or die; with the level, needed and free
     pub swap-no-room : (l : Lack) → Exactly (swapOf t r o k .answer ≡ swaps.NoRoom l)
-        ((Usable t r o × (k + 1 < length o)) × (freeIn t < Needed t o k) × (l ≡ lack k (Needed t o k) (freeIn t)))
+        ((Usable t r o × (k + 1 < length o)) × (freeIn t + Dying t r o k < Needed t o k) × (l ≡ lack k (Needed t o k) (freeIn t)))
     swap-no-room l = record {
       wherever = λ w. ap (λ s. s .answer) (swap.swap-lacks t r o k (w .0 .0) (w .0 .1) (w .1)) ∙ ap swaps.NoRoom (sym (w .2));
       only = swap.lacks-only t r o k l;
     }
 
     -- made exactly where they are not more
-    pub swap-made : Exactly (swapOf t r o k .answer ≡ swaps.Made) ((Usable t r o × (k + 1 < length o)) × (Needed t o k ≤ freeIn t))
+    pub swap-made : Exactly (swapOf t r o k .answer ≡ swaps.Made) ((Usable t r o × (k + 1 < length o)) × (Needed t o k ≤ freeIn t + Dying t r o k))
     swap-made = record {
       wherever = λ w. ap (λ s. s .answer) (swap.swap-made t r o k (w .0 .0) (w .0 .1) (w .1));
-      only = λ e. let w = swap.made-only t r o k e in (w .0, swap.fits-then t o k (w .1));
+      only = λ e. let w = swap.made-only t r o k e in (w .0, swap.fits-then t r o k (w .1));
     }
+
+    -- the other reading of the same: those used before, plus new, less dying, are more than the table has records
+    pub outnumbered : Exactly (freeIn t + Dying t r o k < Needed t o k) (records t < used t + Needed t o k - Dying t r o k)
+    outnumbered = record { wherever = lacks-slots t r (xAt o k) (yAt o k); only = outnumbers t r (xAt o k) (yAt o k) }
 
     -- a swap that isn't made changes nothing
     pub swap-unchanged : (swapOf t r o k .answer ≡ swaps.Made → ⊥) → (swapOf t r o k .table ≡ t) × (swapOf t r o k .order ≡ o)
@@ -138,29 +146,31 @@ module _ (t r o : List ℕ) where
     pub run-starts : ((f : Refusal) → ran .answer ≡ runs.Refused f → ⊥) → Startable plainSwap plan t r o g
     run-starts = run.run-startable plainSwap plan t r o g budget
 
-    -- no room where the order left isn't the target and the plan's next swap needs more records than are free; with its level and these two numbers
-    pub run-no-room : Startable plainSwap plan t r o g → (ran .order ≡ g → ⊥) → freeIn (ran .table) < Needed (ran .table) (ran .order) next
+    -- no room where the order left isn't the target and the plan's next swap needs more records than are free or die; with its level, needed and free
+    pub run-no-room : Startable plainSwap plan t r o g → (ran .order ≡ g → ⊥)
+        → freeIn (ran .table) + Dying (ran .table) r (ran .order) next < Needed (ran .table) (ran .order) next
         → ran .answer ≡ runs.NoRoom (swapsIn (ran .answer)) (left (ran .order) g) (lack next (Needed (ran .table) (ran .order) next) (freeIn (ran .table)))
     run-no-room s n h =
         run.run-stuck plainSwap plan t r o g s budget n (lack next (Needed (ran .table) (ran .order) next) (freeIn (ran .table)))
-        (swap.lacks-if (ran .table) (ran .order) next h)
+        (swap.lacks-if (ran .table) r (ran .order) next h)
 
     -- and only there
     pub run-no-room-only : (m l : ℕ) (k : Lack) → ran .answer ≡ runs.NoRoom m l k
-        → (ran .order ≡ g → ⊥) × (freeIn (ran .table) < Needed (ran .table) (ran .order) next)
+        → (ran .order ≡ g → ⊥) × (freeIn (ran .table) + Dying (ran .table) r (ran .order) next < Needed (ran .table) (ran .order) next)
         × (k ≡ lack next (Needed (ran .table) (ran .order) next) (freeIn (ran .table)))
     run-no-room-only m l k e =
         let s = run-starts (λ f q. apart (cc)) in
         let (n, w) = run.run-lacks plainSwap plan t r o g s budget m l k e in
-        let (h, q) = swap.lacks-then (ran .table) (ran .order) next k w in
+        let (h, q) = swap.lacks-then (ran .table) r (ran .order) next k w in
         (n, h, q)
 
     -- paused only where the order left isn't the target and the plan's next swap fits
-    pub run-paused-only : (m l : ℕ) → ran .answer ≡ runs.Paused m l → (ran .order ≡ g → ⊥) × (Needed (ran .table) (ran .order) next ≤ freeIn (ran .table))
+    pub run-paused-only : (m l : ℕ) → ran .answer ≡ runs.Paused m l
+        → (ran .order ≡ g → ⊥) × (Needed (ran .table) (ran .order) next ≤ freeIn (ran .table) + Dying (ran .table) r (ran .order) next)
     run-paused-only m l e =
         let s = run-starts (λ f q. apart (cc)) in
         let (n, w, b) = run.run-paused plainSwap plan t r o g s budget m l e in
-        (n, swap.fits-then (ran .table) (ran .order) next (ap isClear w))
+        (n, swap.fits-then (ran .table) r (ran .order) next (ap isClear w))
 
     pub run-one : {a b : RunAnswer} {t₁ t₂ o₁ o₂ : List ℕ}
         → RunOutcome plainSwap plan t r o g budget a t₁ o₁ → RunOutcome plainSwap plan t r o g budget b t₂ o₂ → (a ≡ b) × (t₁ ≡ t₂) × (o₁ ≡ o₂)

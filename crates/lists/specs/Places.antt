@@ -32,7 +32,7 @@ module _ (l : List ℕ) (apart : Apart l) where
   pub place-at : (m : ℕ) → m < length l → placeIn l (getD l m 0) ≡ m
   place-at m h = first-only _ (length l) m h (eq-eqb (getD l m 0) (getD l m 0) refl) (λ j q e. apart-at l j m 0 apart q h (eqb-true _ _ e))
 
-  at-place : (i m : ℕ) → m < length l → placeIn l i ≡ m → getD l m 0 ≡ i
+  pub at-place : (i m : ℕ) → m < length l → placeIn l i ≡ m → getD l m 0 ≡ i
   at-place i m h e = ap (λ (j : ℕ). getD l j 0) (sym e) ∙ eqb-true _ _ (first-holds (λ j. eqb (getD l j 0) i) (length l) (omega arith))
 
   one-more : (i m : ℕ) → m < length l → OneMore l i m

@@ -17,7 +17,7 @@ use Rattle.lists.specs.Which.{which, which-mem, which-apart, which-lengt
 
 -- ---- how many pass before an index that passes
 
-count-before : (p : ℕ → Bool) (n i : ℕ) → i < n → p i ≡ true → count p i < count p n
+pub count-before : (p : ℕ → Bool) (n i : ℕ) → i < n → p i ≡ true → count p i < count p n
 unfolding count
 count-before p zero i h t = absurd (not-suc-le-zero h)
 count-before p (suc n) i h t =

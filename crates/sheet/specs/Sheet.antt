@@ -27,7 +27,7 @@ use Rattle.checks.specs.Opened.{openedStages}
 use Rattle.checks.specs.Check.{used}
 use Rattle.swap_rules.specs.Record.{lowOf, highOf, isFreeNode, isOf, same}
 use Rattle.swap_rules.specs.Swap.{xAt, yAt, grandchild, f00, f01, f10, f11, crosses, asked, stands, isNew, wanted, news, stillNames, dies, slots, slotOf}
-use Rattle.swap_rules.specs.Swap.{X, becomes, needed, freeCount, fits, slotIndex, filled, recordAfter, swapped}
+use Rattle.swap_rules.specs.Swap.{dyingCount, X, becomes, needed, freeCount, usedCount, usedAfterwards, fits, slotIndex, filled, recordAfter, swapped}
 use Rattle.swaps.specs.Outcome.{neededIn, wayOf, lack, tableAfter}
 use Rattle.slice_rules.specs.Slices as over
 use Rattle.slice_rules.specs.Slices.{arrived, next, goes, made, leaves, slice}
@@ -69,7 +69,8 @@ unfoldable pub outcome : Row → Outcome
 unfolding nodeAt decode eight encode rootsOf runOf runStages storeStages badRunSizes openedStages ranTo answerOf relay slice leaves over.judge made goes next
     arrived same? planOf noPlan differsAt bringUp firstDifference sinkDown lastDifference invertedAt lowestInversion highestInversion exchange left
     inverted pairs total first last count tabulate keep once each which look lowOf highOf isFreeNode isOf same grandchild f00 f01 f10 f11 crosses asked
-    stands isNew wanted news stillNames dies slots slotOf X becomes needed freeCount fits slotIndex filled recordAfter swapped wayOf tableAfter
+    stands isNew wanted news stillNames dies dyingCount slots slotOf X becomes needed freeCount usedCount usedAfterwards fits slotIndex filled recordAfter swapped
+    wayOf tableAfter
 outcome row =
     let g = row .given in
     let k = planOf (g .plan) (g .order) (g .target) in
@@ -102,8 +103,10 @@ stores =
     -- A
     swap (node 1 0 1 ∷ node 0 0 2 ∷ free ∷ []) (3 ∷ []) 1
     1 (Done 1 0) (free ∷ node 1 0 4 ∷ node 0 0 1 ∷ []) (1 ∷ 0 ∷ []) 2
-    -- B: A with only records 0 and 1
+    -- B: A with only records 0 and 1: the new record takes the one that dies; with roots 3 and 2 that one lives, and there is no room
     ∷ swap (node 1 0 1 ∷ node 0 0 2 ∷ []) (3 ∷ []) 1
+    1 (Done 1 0) (node 0 0 1 ∷ node 1 0 2 ∷ []) (1 ∷ 0 ∷ []) 2
+    ∷ swap (node 1 0 1 ∷ node 0 0 2 ∷ []) (3 ∷ 2 ∷ []) 1
     1 (NoRoom 0 1 (lack 0 1 0)) (node 1 0 1 ∷ node 0 0 2 ∷ []) (0 ∷ 1 ∷ []) 2
     -- C: A with roots 3 and 2: record 0 stays
     ∷ swap (node 1 0 1 ∷ node 0 0 2 ∷ free ∷ []) (3 ∷ 2 ∷ []) 1
@@ -114,21 +117,21 @@ stores =
     -- E: the order alone is altered
     ∷ swap (node 0 0 1 ∷ node 1 0 1 ∷ []) (2 ∷ 3 ∷ []) 1
     0 (Done 1 0) (node 0 0 1 ∷ node 1 0 1 ∷ []) (1 ∷ 0 ∷ []) 2
-    -- F: exclusive or; and with one record fewer
+    -- F: exclusive or; and with one record fewer: the first new record takes the free one, the second the lower of the two that die
     ∷ swap (node 1 0 1 ∷ node 1 1 0 ∷ node 0 2 3 ∷ free ∷ free ∷ []) (4 ∷ []) 1
     2 (Done 1 0) (free ∷ free ∷ node 1 5 6 ∷ node 0 0 1 ∷ node 0 1 0 ∷ []) (1 ∷ 0 ∷ []) 3
     ∷ swap (node 1 0 1 ∷ node 1 1 0 ∷ node 0 2 3 ∷ free ∷ []) (4 ∷ []) 1
-    2 (NoRoom 0 1 (lack 0 2 1)) (node 1 0 1 ∷ node 1 1 0 ∷ node 0 2 3 ∷ free ∷ []) (0 ∷ 1 ∷ []) 3
+    2 (Done 1 0) (node 0 1 0 ∷ free ∷ node 1 5 2 ∷ node 0 0 1 ∷ []) (1 ∷ 0 ∷ []) 3
     -- two crossing records that ask for the same new one: it is made for the lower and serves the other
     ∷ swap (node 1 0 1 ∷ node 0 0 2 ∷ node 0 2 1 ∷ free ∷ []) (3 ∷ 4 ∷ []) 1
     1 (Done 1 0) (free ∷ node 1 0 5 ∷ node 1 5 1 ∷ node 0 0 1 ∷ []) (1 ∷ 0 ∷ []) 3
     -- two that ask for different ones: the lower record's goes to the lower free record
     ∷ swap (node 1 0 1 ∷ node 0 0 2 ∷ node 0 1 2 ∷ free ∷ free ∷ []) (3 ∷ 4 ∷ []) 1
     2 (Done 1 0) (free ∷ node 1 0 5 ∷ node 1 6 1 ∷ node 0 0 1 ∷ node 0 1 0 ∷ []) (1 ∷ 0 ∷ []) 4
-    -- J: budget 0 in A, in B, and with the order equal to the target
+    -- J: budget 0 in A, in B with roots 3 and 2, and with the order equal to the target
     ∷ swap (node 1 0 1 ∷ node 0 0 2 ∷ free ∷ []) (3 ∷ []) 0
     1 (Paused 0 1) (node 1 0 1 ∷ node 0 0 2 ∷ free ∷ []) (0 ∷ 1 ∷ []) 2
-    ∷ swap (node 1 0 1 ∷ node 0 0 2 ∷ []) (3 ∷ []) 0
+    ∷ swap (node 1 0 1 ∷ node 0 0 2 ∷ []) (3 ∷ 2 ∷ []) 0
     1 (NoRoom 0 1 (lack 0 1 0)) (node 1 0 1 ∷ node 0 0 2 ∷ []) (0 ∷ 1 ∷ []) 2
     ∷ orders (1 ∷ 0 ∷ []) (1 ∷ 0 ∷ []) 0 0 (Done 0 0) (1 ∷ 0 ∷ [])
     -- no plan has this number; a record that nothing names wins over that

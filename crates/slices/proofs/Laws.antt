@@ -31,7 +31,6 @@ use Rattle.checks.specs.declared.Verdict.{Verdict}
 use Rattle.checks.specs.declared.Verdict.the-variants as verdict
 use Rattle.swap_rules.specs.Swap.{xAt, yAt}
 use Rattle.swaps.specs.Outcome.{wayOf, isClear, tableAfter, TableSwapped}
-use Rattle.swaps.specs.Work.{Asking}
 use Rattle.swaps.specs.declared.Lack.{Lack}
 use Rattle.swaps.specs.declared.Way.{Way}
 use Rattle.swaps.specs.declared.Way.the-variants as way
@@ -63,13 +62,10 @@ differ o g e h = sym e ∙ h
 pub order-inverse : {order : Order} {n : ℕ} → Arranged order n → Inverse order
 order-inverse h = arranged-inverse h
 
-pub asking : {t r : List ℕ} {k : ℕ} → TableSizes t r → k + 1 < ceiling → Asking t k
-asking s l = record { few-records = s .few-records; whole-records = s .whole-records; level = l }
-
 -- the way is that of the order's first n levels
-same-way : (t : List ℕ) (order : Order) (n k : ℕ) → k + 1 < n → wayOf t (order .variables) k ≡ wayOf t (bytesOf order n) k
+same-way : (t r : List ℕ) (order : Order) (n k : ℕ) → k + 1 < n → wayOf t r (order .variables) k ≡ wayOf t r (bytesOf order n) k
 unfolding wayOf
-same-way t order n k l = rw (getD-take n (order .variables) k 0 (omega arith), getD-take n (order .variables) (k + 1) 0 l)
+same-way t r order n k l = rw (getD-take n (order .variables) k 0 (omega arith), getD-take n (order .variables) (k + 1) 0 l)
 
 same-table : (t r : List ℕ) (order : Order) (n k : ℕ) → k + 1 < n
     → tableAfter t r (xAt (order .variables) k) (yAt (order .variables) k) ≡ tableAfter t r (xAt (bytesOf order n) k) (yAt (bytesOf order n) k)
@@ -155,10 +151,10 @@ module _ (name : coded.Plan) where
       inside = plan-inside h i same apart planned
 
       -- what the code met is what the slice meets
-      met : {w : Way} → w ≡ wayOf t (order .variables) k → w ≡ wayOf t (bytesOf order n) (plan (bytesOf order n) (bytesOf goal n))
-      met e = e ∙ same-way t order n k inside ∙ ap (wayOf t (bytesOf order n)) planned
+      met : {w : Way} → w ≡ wayOf t r (order .variables) k → w ≡ wayOf t r (bytesOf order n) (plan (bytesOf order n) (bytesOf goal n))
+      met e = e ∙ same-way t r order n k inside ∙ ap (wayOf t r (bytesOf order n)) planned
 
-      goes-as : {w : Way} → w ≡ wayOf t (order .variables) k → over.goes (relay plainSwap r) plan (bytesOf goal n) (stateOf t order n) ≡ isClear w
+      goes-as : {w : Way} → w ≡ wayOf t r (order .variables) k → over.goes (relay plainSwap r) plan (bytesOf goal n) (stateOf t order n) ≡ isClear w
       unfolding over.goes over.arrived over.next relay
       goes-as e = rw (sym same ∙ apart, ← met e)
 
@@ -191,7 +187,7 @@ module _ (name : coded.Plan) where
               arranged = rw p (exchanged-arranged h k inside);
             }
 
-      module _ (swaps : ℕ) {l : ℕ} (counted : l ≡ left (bytesOf order n) (bytesOf goal n)) {w : Way} (asked : w ≡ wayOf t (order .variables) k) where
+      module _ (swaps : ℕ) {l : ℕ} (counted : l ≡ left (bytesOf order n) (bytesOf goal n)) {w : Way} (asked : w ≡ wayOf t r (order .variables) k) where
         judge-meets : answerOf swaps l (over.meets w) ≡ judgedOn plainSwap plan t r order goal n swaps
         unfolding over.judge over.arrived over.next relay
         judge-meets = rw (sym same ∙ apart, ← met asked, counted)
@@ -288,7 +284,7 @@ module _ (number : ℕ) (t r o g : List ℕ) (budget : ℕ) {v : Verdict} (judge
 
 -- ---- to be searched
 
-pub ruleset planning = (few-levels, differ, plan-low, order-inverse, asking, needs)
+pub ruleset planning = (few-levels, differ, plan-low, order-inverse, needs)
 
 pub ruleset stepping = (step-arrived, step-stuck, step-made)
 

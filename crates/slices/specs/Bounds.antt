@@ -55,7 +55,7 @@ module _ (number : ℕ) (t r o g : List ℕ) (budget m : ℕ) (big : 2 * mostRec
         let w = run-lacks plainSwap number t r o g starts budget s l k e in
         let o′ = runOf plainSwap number t r o g budget .order in
         let t′ = runOf plainSwap number t r o g budget .table in
-        let is = lacks-then t′ o′ (planOf number o′ g) k (w .1) .1 in
+        let is = lacks-then t′ r o′ (planOf number o′ g) k (w .1) .1 in
         let small = room-small t′ (xAt o′ (planOf number o′ g)) (yAt o′ (planOf number o′ g)) m big (sizes .few-records) in
         let inside = run-inside plainSwap number t r o g starts budget (w .0) in (
           omega (arith, ap (λ (z : Lack). z .level) is, inside, sizes .few-variables),

@@ -66,7 +66,7 @@ abbrev pub plainSwap : OneSwap
 plainSwap = record {
   tableStages = check.tableStages;
   Usable = checked.Usable;
-  wayOf = λ t r o k. outcome.wayOf t o k;
+  wayOf = outcome.wayOf;
   tableAfter = λ t r o k. outcome.tableAfter t r (xAt o k) (yAt o k);
   swapOf = outcome.swapOf;
   rootValue = λ t r n inputs position. value (lookup t) inputs n (rootAt r position);
@@ -74,8 +74,8 @@ plainSwap = record {
   usable-passes = λ t r o u. table-passes t r o (all-pass t r o (usable-then t r o u));
   sizes = λ t r o u. u .sizes;
   permutation = λ t r o u. u .order;
-  usable-after = λ t r o k u l c. swap-usable t r o k u l (sym (way-fits t o k) ∙ c);
-  value-after = λ t r o k u l c. swap-root-value t r o k u l (sym (way-fits t o k) ∙ c);
+  usable-after = λ t r o k u l c. swap-usable t r o k u l (sym (way-fits t r o k) ∙ c);
+  value-after = λ t r o k u l c. swap-root-value t r o k u l (sym (way-fits t r o k) ∙ c);
   swap-clear = entry.swap-clear;
   swap-stuck = entry.swap-stuck;
 }

@@ -171,7 +171,7 @@ fn judge(
         return RunAnswer::Done { swaps, left };
     }
     let level = plans::next_level(plan, order, goal, n);
-    match swaps::ask(table, order, level) {
+    match swaps::ask(table, roots, order, level) {
         Way::NoRoom(lack) => RunAnswer::NoRoom { swaps, left, lack },
         Way::Clear => RunAnswer::Paused { swaps, left },
     }

@@ -4,16 +4,18 @@ use mathlib.Core.Bool.{Bool, true, false, not, _&&_}
 use mathlib.Core.List.{List}
 use mathlib.Core.Path.{_≡_, sym, _∙_}
 use native.Mathlib.Omega.{arith}
+use borrow.Author.Needs.{needs}
 use lib.ListN.{length, getD, set}
 use lib.Seq.{set-out}
 use Rattle.diagrams.specs.Layout.{rootAt, lowAt, highAt, isUsed}
 use Rattle.diagrams.specs.Lookup.{lookup}
 use Rattle.diagrams.specs.Node.{ref}
 use Rattle.swap_rules.specs.Record.{isOf}
-use Rattle.swap_records.specs.Listed.{entries}
-use Rattle.swap_names.specs.Naming.{named, namedRoot, namedBy, namedOther, namedEntry, CountRoom, room-less, room-named}
-use Rattle.swap_names.specs.Naming.{two-of-root, two-of-other, two-of-entry}
+use Rattle.swap_records.specs.Kinds.{ofAt}
+use Rattle.swap_names.specs.Naming.{named, namedRoot, namedBy, namedOther, unnamed, CountRoom, room-less, room-named}
+use Rattle.swap_names.specs.Naming.{two-of-root, two-of-other}
 use Rattle.swap_names.specs.Naming.{counting-begins, counting-one, counting-two, counting-goes, counting-ends}
+use Rattle.swap_names.specs.Slots.{nameless}
 
 module _ (l : List ℕ) (q : ℕ) where
   pub name-counts : {v : ℕ} → v ≡ getD l q 0 → set l q (v + 1) ≡ named l q
@@ -27,10 +29,6 @@ module _ (l : List ℕ) (q : ℕ) where
 pub root-counts : (r l : List ℕ) (k : ℕ) {x : ℕ} {l₁ : List ℕ} → x ≡ rootAt r k → l₁ ≡ named l x → l₁ ≡ namedRoot r l k
 unfolding namedRoot
 root-counts r l k p q = cc
-
-pub entry-counts : (t list l : List ℕ) (k : ℕ) {i : ℕ} {l₁ : List ℕ} → i ≡ getD list k 0 → l₁ ≡ namedBy t l i → l₁ ≡ namedEntry t list l k
-unfolding namedEntry
-entry-counts t list l k p q = rw (← p) q
 
 module _ (t l : List ℕ) (i : ℕ) where
   pub both-counts : {a b : ℕ} {l₁ l₂ : List ℕ} → a ≡ lowAt t i → l₁ ≡ named l a → b ≡ highAt t i → l₂ ≡ named l₁ b → l₂ ≡ namedBy t l i
@@ -57,4 +55,10 @@ pub room-left : {l l′ : List ℕ} (y : ℕ) → CountRoom l 2 → l′ ≡ nam
 room-left y c e = rw e (room-named y 1 c)
 
 pub ruleset counting =
-    (counting-begins, counting-one, counting-two, counting-goes, counting-ends, two-of-root, two-of-other, two-of-entry, root-counts, entry-counts, entries)
+    (counting-begins, counting-one, counting-two, counting-goes, counting-ends, two-of-root, two-of-other, root-counts, needs)
+
+-- ---- what dies goes to the slots
+
+pub nameless-is : (t : List ℕ) (y : ℕ) (names : List ℕ) (i : ℕ) {a b : Bool} → a ≡ ofAt t y i → b ≡ unnamed names i → (a && b) ≡ nameless t y names i
+unfolding nameless
+nameless-is t y names i p q = rw (p, q)

@@ -1,32 +1,32 @@
--- The names counted in turn, by the roots, by the records of other variables than x and by the x records that stand: a y record without a name dies.
+-- The names counted in turn, by the roots and by the records of other variables than x: a y record without a name dies. An x record that names it
+-- crosses, and so lets go of it.
 use Prim.Native.Nat.{ℕ, _+_, _*_, _≤_, _<_}
 use mathlib.Core.Bool.{Bool, true, false, cond, not, _&&_, _||_}
 use mathlib.Core.List.{List}
+use mathlib.Core.Logic.{_⊎_, inl, inr}
 use mathlib.Core.Path.{_≡_, refl, ap, sym, _∙_}
 use native.Mathlib.Omega.{arith}
 use borrow.Author.Tests.{eqb-true, eqb-false, ne-eqb}
 use lib.Dec.{eqb, ltb}
 use lib.ListN.{length, getD, set, length-set, List·getD-eq-default}
 use lib.Seq.{getD-set-same, getD-set-other}
-use Rattle.lists.specs.Entries.{fold-entries, entries-few}
-use Rattle.lists.specs.First.{any, any-or, first-agrees}
+use Rattle.lists.specs.First.{any, first-agrees}
 use Rattle.lists.specs.Fold.{fold}
 use Rattle.lists.specs.Says.{either-side}
-use Rattle.lists.specs.Truth.{or-true, or-false, or-assoc}
+use Rattle.lists.specs.Truth.{by, or-cases, or-true, or-false}
 use Rattle.diagrams.specs.Edition.{plain}
 use Rattle.diagrams.specs.Layout.{mostRecords, records, rootCount, variableAt, lowAt, highAt, isFree, isUsed}
 use Rattle.diagrams.specs.Node.{Node, free, node, at, ref, two-more}
 use Rattle.diagrams.specs.Decode.{nodeAt, decode}
-use Rattle.diagrams.specs.Lookup.{lookup, at-decode, rootsOf, length-roots, root-is}
+use Rattle.diagrams.specs.Lookup.{lookup, at-decode, node-of, rootsOf, length-roots, root-is}
 use Rattle.diagrams.specs.Noting.{rootNames, noNotes, length-no-notes, no-note, roots-long, roots-has, records-long, records-has}
 use Rattle.check_sizes.specs.Sizes.{TableSizes}
-use Rattle.swap_rules.specs.Record.{lowOf, highOf, isFreeNode}
+use Rattle.swap_rules.specs.Record.{lowOf, highOf, isFreeNode, isOf}
 use Rattle.swap_rules.specs.Swap.{crosses, stillNames, dies}
-use Rattle.swap_records.specs.Kinds.{of-is, ofAt, crossesAt, standsAt}
-use Rattle.swap_records.specs.Listed.{StandingListed}
+use Rattle.swap_records.specs.Kinds.{ofAt, crossesAt}
 use Rattle.swap_records.specs.declared.Pair.{Pair}
-use Rattle.swap_names.specs.Naming.{named, namedRoot, namedBy, namedOther, namedEntry, unnamed}
-use Rattle.swap_names.specs.Naming.{CountRoom, room-fold, two-of-root, two-of-other}
+use Rattle.swap_names.specs.Naming.{named, namedRoot, namedBy, namedOther, unnamed}
+use Rattle.swap_names.specs.Naming.{CountRoom, room-fold, two-of-root}
 
 -- record i dies
 abbrev pub diesIn : List ℕ → List ℕ → Pair → ℕ → Bool
@@ -74,17 +74,37 @@ abbrev other : List ℕ → ℕ → ℕ → Bool
 other t x i = isUsed t i && not (ofAt t x i)
 
 module _ (t : List ℕ) (x y : ℕ) where
-  -- what stays is none of x, or an x record that stands
-  kept-is : (q j : ℕ) → j < records t → ((other t x j && says t q j) || (standsAt t x y j && says t q j)) ≡ keeps t x y q j
-  unfolding standsAt crosses
-  kept-is q j h = rw (of-is t x j h) (go (isUsed t j) (eqb (variableAt t j) x) _ (says t q j))
+  -- an x record that names a y record crosses
+  crosses-named : (q j : ℕ) → j < records t → isFree t j ≡ false → isOf y (lookup t q) ≡ true → says t q j ≡ true → crossesAt t x y j ≡ ofAt t x j
+  unfolding crosses lowOf highOf
+  crosses-named q j h u e s =
+      rw (node-of t j h (eqb-false (variableAt t j) 255 u)) (go (isOf x (node (variableAt t j) (lowAt t j) (highAt t j))) (or-cases _ _ s))
     where
-      go : (u e b n : Bool) → (((u && not (u && e)) && n) || (((u && e) && not ((u && e) && b)) && n)) ≡ (u && not ((u && e) && b) && n)
-      go true true true n = refl
-      go true true false n = refl
-      go true false b true = refl
-      go true false b false = refl
-      go false e b n = refl
+      low : eqb (lowAt t j) q ≡ true → isOf y (lookup t (lowAt t j)) ≡ true
+      low z = ap (λ r. isOf y (lookup t r)) (eqb-true (lowAt t j) q z) ∙ e
+
+      high : eqb (highAt t j) q ≡ true → isOf y (lookup t (highAt t j)) ≡ true
+      high z = ap (λ r. isOf y (lookup t r)) (eqb-true (highAt t j) q z) ∙ e
+
+      go : (b : Bool) → (eqb (lowAt t j) q ≡ true) ⊎ (eqb (highAt t j) q ≡ true) → (b && (isOf y (lookup t (lowAt t j)) || isOf y (lookup t (highAt t j)))) ≡ b
+      go true (inl z) = rw (low z)
+      go true (inr z) = ap (λ v. isOf y (lookup t (lowAt t j)) || v) (high z) ∙ sym (or-true (isOf y (lookup t (lowAt t j))))
+      go false w = refl
+
+  -- what stays and names a y record is none of x
+  kept-is : (q j : ℕ) → j < records t → isOf y (lookup t q) ≡ true → (other t x j && says t q j) ≡ keeps t x y q j
+  kept-is q j h e = go (isFree t j) refl (says t q j) refl
+    where
+      go : (u : Bool) → isFree t j ≡ u → (s : Bool) → says t q j ≡ s → ((not u && not (ofAt t x j)) && s) ≡ (not u && not (crossesAt t x y j) && s)
+      go true f s z = refl
+      go false f true z = ap (λ b. not b && true) (sym (crosses-named q j h f e z))
+      go false f false z = none (not (ofAt t x j)) (not (crossesAt t x y j))
+        where
+          none : (a b : Bool) → (a && false) ≡ (b && false)
+          none true true = refl
+          none true false = refl
+          none false true = refl
+          none false false = refl
 
   names-is : (q j : ℕ) → j < records t → stillNames plain (at (decode t)) x y q j ≡ keeps t x y q j
   unfolding stillNames nodeAt isFreeNode lowOf highOf
@@ -131,18 +151,12 @@ module _ {t r : List ℕ} (sized : TableSizes t r) {l₀ : List ℕ} (none : l�
         rw (roots, none) (roots-has named has name-long name-has r noNotes (rootCount r) q (rw length-no-notes h))
         ∙ ap (λ v. not (eqb v 0) || any (rootNames r q) (rootCount r)) (none-named q)
 
-    module _ (p : Pair) {l₂ : List ℕ} (others : l₂ ≡ fold (namedOther t (p .x .0)) l₁ (records t))
-        {standing : List ℕ} {m : ℕ} (S : StandingListed t p standing m) where
+    module _ (p : Pair) {l₂ : List ℕ} (others : l₂ ≡ fold (namedOther t (p .x .0)) l₁ (records t)) where
       abbrev x : ℕ
       x = p .x .0
 
       abbrev y : ℕ
       y = p .y .0
-
-      pub room-standing : CountRoom l₂ (2 * m)
-      room-standing =
-          rw others
-          (room-fold (two-of-other t x) l₁ (records t) (2 * m) (room-then (2 * m + 2 * records t) (omega (arith, entries-few S, sized .few-records))))
 
       long₂ : length l₂ ≡ mostRecords + 2
       unfolding namedOther namedBy
@@ -154,37 +168,28 @@ module _ {t r : List ℕ} (sized : TableSizes t r) {l₀ : List ℕ} (none : l�
           rw others (records-has named has name-long name-has t (other t x) l₁ (records t) q (rw long₁ h))
           ∙ ap (λ b. b || any (λ i. other t x i && says t q i) (records t)) (say₁ q h)
 
-      module _ {l₃ : List ℕ} (stand : l₃ ≡ fold (namedEntry t standing) l₂ m) where
-        by-records : l₃ ≡ fold (λ l i. cond (standsAt t x y i) (namedBy t l i) l) l₂ (records t)
-        unfolding namedEntry
-        by-records = stand ∙ fold-entries (namedBy t) (standsAt t x y) S l₂
+      -- of a y record
+      say-y : (q : ℕ) → q < mostRecords + 2 → isOf y (lookup t q) ≡ true → has l₂ q ≡ (any (rootNames r q) (rootCount r) || any (keeps t x y q) (records t))
+      say-y q h e =
+          say₂ q h
+          ∙ ap (λ k. any (rootNames r q) (rootCount r) || ltb k (records t)) (first-agrees _ _ (records t) (λ j b. kept-is t x y q j b e))
 
-        say₃ : (q : ℕ) → q < mostRecords + 2 → has l₃ q ≡ (any (rootNames r q) (rootCount r) || any (keeps t x y q) (records t))
-        unfolding namedBy
-        say₃ q h =
-            ap (λ l. has l q) by-records
-            ∙ records-has named has name-long name-has t (standsAt t x y) l₂ (records t) q (rw long₂ h)
-            ∙ ap (λ b. b || any (λ i. standsAt t x y i && says t q i) (records t)) (say₂ q h)
-            ∙ or-assoc (any (rootNames r q) (rootCount r)) _ _
-            ∙ ap (λ b. any (rootNames r q) (rootCount r) || b)
-            (any-or (λ i. other t x i && says t q i) (λ i. standsAt t x y i && says t q i) (records t)
-            ∙ ap (λ k. ltb k (records t)) (first-agrees _ _ (records t) (kept-is t x y q)))
+      pub counted : Counted t r p l₂
+      unfolding unnamed dies
+      counted = record { long = long₂; tell = λ i h. told i h (by (ofAt t y i)) }
+        where
+          turned : (a b : Bool) → not a ≡ b → a ≡ not b
+          turned true b e = rw (← e)
+          turned false b e = rw (← e)
 
-        pub counted : Counted t r p l₃
-        unfolding unnamed dies namedBy
-        counted = record { long = ap length by-records ∙ records-long named has name-long name-has t (standsAt t x y) l₂ (records t) ∙ long₂; tell = told }
-          where
-            turned : (a b : Bool) → not a ≡ b → a ≡ not b
-            turned true b e = rw (← e)
-            turned false b e = rw (← e)
+          go : (u v w : Bool) → (u && not (v || w)) ≡ (u && not v && not w)
+          go true true w = refl
+          go true false w = refl
+          go false v w = refl
 
-            go : (u v w : Bool) → (u && not (v || w)) ≡ (u && not v && not w)
-            go true true w = refl
-            go true false w = refl
-            go false v w = refl
-
-            told : (i : ℕ) → i < records t → (ofAt t y i && unnamed l₃ i) ≡ diesIn t r p i
-            told i h =
-                ap (λ b. ofAt t y i && b) (turned _ _ (say₃ (i + 2) (omega (arith, sized .few-records))))
-                ∙ rw (two-more i, roots-name r (ref i), records-name t x y (ref i))
-                (go (ofAt t y i) (any (rootNames r (ref i)) (rootCount r)) (any (keeps t x y (ref i)) (records t)))
+          told : (i : ℕ) → i < records t → (ofAt t y i ≡ true) ⊎ (ofAt t y i ≡ false) → (ofAt t y i && unnamed l₂ i) ≡ diesIn t r p i
+          told i h (inl e) =
+              ap (λ b. ofAt t y i && b) (turned _ _ (say-y (i + 2) (omega (arith, sized .few-records)) (rw two-more e)))
+              ∙ rw (two-more i, roots-name r (ref i), records-name t x y (ref i))
+              (go (ofAt t y i) (any (rootNames r (ref i)) (rootCount r)) (any (keeps t x y (ref i)) (records t)))
+          told i h (inr f) = rw f

@@ -31,10 +31,6 @@ namedBy t l i = named (named l (lowAt t i)) (highAt t i)
 unfoldable pub namedOther : List ℕ → ℕ → List ℕ → ℕ → List ℕ
 namedOther t x l i = cond (isUsed t i && not (ofAt t x i)) (namedBy t l i) l
 
--- what the record names whose number is entry k of a list
-unfoldable pub namedEntry : List ℕ → List ℕ → List ℕ → ℕ → List ℕ
-namedEntry t list l k = namedBy t l (getD list k 0)
-
 -- record i has no name
 unfoldable pub unnamed : List ℕ → ℕ → Bool
 unnamed names i = eqb (getD names (i + 2) 0) 0
@@ -83,10 +79,6 @@ two-of-other t x = record { room = λ l k n c. go l k n c (isUsed t k && not (of
     go : (l : List ℕ) (k n : ℕ) → CountRoom l (n + 2) → (b : Bool) → CountRoom (cond b (namedBy t l k) l) n
     go l k n c true = room-both t l k n c
     go l k n c false = room-less c (omega arith)
-
-pub two-of-entry : (t list : List ℕ) → TwoNames (namedEntry t list)
-unfolding namedEntry
-two-of-entry t list = record { room = λ l k n c. room-both t l (getD list k 0) n c }
 
 module _ {f : List ℕ → ℕ → List ℕ} (two : TwoNames f) where
   pub room-fold : (l : List ℕ) (k n : ℕ) → CountRoom l (n + 2 * k) → CountRoom (fold f l k) n

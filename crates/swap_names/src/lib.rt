@@ -6,15 +6,15 @@ ghost use Rattle.lists.specs.Fold.{fold};
 ghost use Rattle.diagrams.specs.Layout.{records, rootCount, InTable};
 ghost use Rattle.diagrams.specs.Noting.{noNotes};
 ghost use Rattle.check_sizes.specs.Sizes.{TableSizes};
-ghost use Rattle.swap_records.specs.Listed.{StandingListed, Inside};
-ghost use Rattle.swap_names.specs.Naming.{named, namedRoot, namedBy, namedOther, namedEntry, unnamed, CountRoom};
+ghost use Rattle.swap_names.specs.Naming.{named, namedRoot, namedBy, namedOther, unnamed, CountRoom};
 ghost use Rattle.swap_names.specs.Dying.{Counted};
 use diagrams::MOST_RECORDS;
 use diagrams::RecordNumber;
 use diagrams::Reference;
 use diagrams::Variable;
 use swap_records::Pair;
-use swap_records::collect;
+
+pub mod dying;
 
 fn no_names() -> [u16; MOST_RECORDS + 2]
     ensures { λ l. ⌜ l ≡ noNotes ⌝ }
@@ -75,36 +75,18 @@ fn count_others(names: &mut [u16], table: &[u8], x: Variable)
     }
 }
 
-// By the x records that stand.
-fn count_standing(names: &mut [u16], table: &[u8], standing: &[u16], count: usize)
-    requires { ⌜ Inside (now table) (now standing) count × CountRoom (now names) (2 * count) ⌝ }
-    ensures { λ _. ⌜ now (names .exit) ≡ fold (namedEntry (now (table .entry)) (now (standing .entry))) (now (names .entry)) count ⌝ }
-{
-    let mut k = 0;
-    while k < count {
-        count_both(names, table, collect::entry(standing, k));
-        k += 1;
-    }
-}
-
-pub fn count_names(
-    table: &[u8],
-    roots: &[u8],
-    pair: Pair,
-    standing: &[u16],
-    count: usize,
-) -> [u16; MOST_RECORDS + 2]
-    requires { ⌜ TableSizes (now table) (now roots) × StandingListed (now table) pair (now standing) count ⌝ }
+// By all that keeps its references and may name a y record: an x record with a y record as a child crosses.
+fn count_names(table: &[u8], roots: &[u8], pair: Pair) -> [u16; MOST_RECORDS + 2]
+    requires { ⌜ TableSizes (now table) (now roots) ⌝ }
     ensures { λ names. ⌜ Counted (now (table .entry)) (now (roots .entry)) pair names ⌝ }
 {
     let mut names = no_names();
     count_roots(&mut names, roots);
     count_others(&mut names, table, pair.x);
-    count_standing(&mut names, table, standing, count);
     names
 }
 
-pub fn is_unnamed(names: &[u16], i: RecordNumber) -> bool
+fn is_unnamed(names: &[u16], i: RecordNumber) -> bool
     requires { ⌜ (i .0 + 2 < length (now names)) × (i .0 < 65536) ⌝ }
     ensures { λ b. ⌜ b ≡ unnamed (now (names .entry)) (i .0) ⌝ }
 {

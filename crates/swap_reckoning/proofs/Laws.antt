@@ -14,7 +14,7 @@ use Rattle.diagrams.specs.declared.Reference.{Reference}
 use Rattle.swap_records.specs.Listed.{Inside, entries}
 use Rattle.swap_records.specs.Pairs.{putAt}
 use Rattle.swap_reckoning.specs.Searching.{News, matchesAt, newAt, notePair, slotAt, settledAt, Searchable, Noted}
-use Rattle.swap_reckoning.specs.Reckoned.{asks-low, asks-high, answered, turns-begin, turn-comes, turn-room, turn-asks, turn-keeps, turn-taken}
+use Rattle.swap_reckoning.specs.Reckoned.{asks-low, asks-high, answered, turns-begin, turn-comes, turn-carried, turn-room, turn-asks, turn-keeps, turn-taken}
 use Rattle.swap_reckoning.specs.declared.Counts.{Counts}
 
 -- ---- a slot
@@ -56,16 +56,16 @@ module _ {t standing slots news : List ℕ} {q : Counts} (s : Searchable t stand
         stands : any (matchesAt t standing a b) (q .standing) ≡ true
         stands = lt-ltb (first (matchesAt t standing a b) (q .standing)) (q .standing) (rw found at h)
 
-    module _ {j : ℕ} (none : q .standing ≤ k) (place : j ≡ first (newAt news a b) (q .needed)) (at : w .0 ≡ slotAt slots (q .free) j) where
+    module _ {j : ℕ} (none : q .standing ≤ k) (place : j ≡ first (newAt news a b) (q .needed)) (at : w .0 ≡ slotAt slots (q .slots) j) where
       no-match : any (matchesAt t standing a b) (q .standing) ≡ false
       no-match = le-ltb (first (matchesAt t standing a b) (q .standing)) (q .standing) (rw found at none)
 
-      settled-there : w .0 ≡ settledAt t standing (q .standing) so-far a b slots (q .free)
+      settled-there : w .0 ≡ settledAt t standing (q .standing) so-far a b slots (q .slots)
       unfolding settledAt
       settled-there = at ∙ rw (ne-eqb a b differ, no-match, ← place)
 
       small-there : w .0 < 65536
-      small-there = rw at (slot-small slots (q .free) j (s .slots-in) (s .few))
+      small-there = rw at (slot-small slots (q .slots) j (s .slots-in) (s .few))
 
       pub note-known : j < q .needed → Noted t standing slots news q a b news (record { reference = w; needed = q .needed })
       unfolding notePair
@@ -92,4 +92,4 @@ pub ruleset noting = (note-one, note-stands, note-known, note-new, entries)
 
 pub ruleset asking = (asks-low, asks-high, answered, needs)
 
-pub ruleset turning = (turns-begin, turn-comes, turn-room, turn-asks, turn-keeps, turn-taken, needs)
+pub ruleset turning = (turns-begin, turn-comes, turn-carried, turn-room, turn-asks, turn-keeps, turn-taken, needs)

@@ -1,5 +1,5 @@
 -- What the crossing records ask for, one after the other, and X(a, b) as it is found on the way: the new records only grow at their end,
--- so that what is found among those so far is found at the same place among all of them.
+-- so that what is found among those so far is found at the same place among all of them. The new records go `into` the records of a list.
 use Prim.Native.Nat.{ℕ, suc, _+_, _≤_, _<_}
 use mathlib.Core.Bool.{Bool, true, false, cond, not, _&&_}
 use mathlib.Core.List.{List, [], _∷_, _++_, append-assoc, append-nil}
@@ -23,7 +23,7 @@ use Rattle.diagrams.specs.Node.{Node, free, node, at, ref}
 use Rattle.diagrams.specs.Decode.{decode}
 use Rattle.diagrams.specs.Lookup.{lookup}
 use Rattle.swap_rules.specs.Record.{lowOf, highOf, same, says-same}
-use Rattle.swap_rules.specs.Swap.{f00, f01, f10, f11, asked, bothAsked, stands, isNew, wanted, news, slots, slotOf, X, becomes}
+use Rattle.swap_rules.specs.Swap.{f00, f01, f10, f11, asked, bothAsked, stands, isNew, wanted, news, slotOf, X, becomes}
 use Rattle.swap_records.specs.Kinds.{crossesAt}
 
 -- ---- a swap's definition, of a stored table
@@ -41,12 +41,12 @@ module _ (t : List ℕ) (x y : ℕ) where
   abbrev pub standsIn : Node → ℕ → Bool
   standsIn = stands plain (at (decode t)) x y
 
-  -- what a crossing record becomes
-  abbrev pub becomesIn : ℕ → Node
-  becomesIn = becomes plain (at (decode t)) (records t) x y
+  -- what a crossing record becomes, where the new records go into these
+  abbrev pub becomesIn : List ℕ → ℕ → Node
+  becomesIn into = becomes plain (at (decode t)) (records t) x y into
 
-  abbrev XIn : ℕ → ℕ → ℕ
-  XIn = X plain (at (decode t)) (records t) x y
+  abbrev XIn : List ℕ → ℕ → ℕ → ℕ
+  XIn into = X plain (at (decode t)) (records t) x y into
 
   abbrev isNewIn : Node → Bool
   isNewIn = isNew plain (at (decode t)) (records t) x y
@@ -67,12 +67,12 @@ module _ (t : List ℕ) (x y : ℕ) where
   noted l w = cond (isNewIn t x y w) (cond (any (λ j. same w (getD l j free)) (length l)) l (l ++ (w ∷ []))) l
 
   -- X(a, b), looked for among the new records l
-  unfoldable pub settledIn : List Node → ℕ → ℕ → ℕ
-  settledIn l a b =
+  unfoldable pub settledIn : List ℕ → List Node → ℕ → ℕ → ℕ
+  settledIn into l a b =
       cond (eqb a b) a
       (ref
       (cond (any (standsIn t x y (node x a b)) (records t)) (first (standsIn t x y (node x a b)) (records t))
-      (getD (slots (at (decode t)) (records t)) (placeOf (same (node x a b)) free l) 0)))
+      (getD into (placeOf (same (node x a b)) free l) 0)))
 
   -- record i asks for its low, then for its high
   abbrev pub lowNoted : List Node → ℕ → List Node
@@ -147,9 +147,9 @@ module _ (t : List ℕ) (x y : ℕ) where
 
   -- ---- and so X(a, b) is what was found when it was asked for
 
-  settled-final : (l : List Node) (a b : ℕ) → Begins (noted l (node x a b)) (newsIn t x y) → settledIn l a b ≡ XIn t x y a b
+  settled-final : (into : List ℕ) (l : List Node) (a b : ℕ) → Begins (noted l (node x a b)) (newsIn t x y) → settledIn into l a b ≡ XIn t x y into a b
   unfolding noted settledIn isNew lowOf highOf X slotOf
-  settled-final l a b = go (eqb a b) (any (standsIn t x y w) (records t))
+  settled-final into l a b = go (eqb a b) (any (standsIn t x y w) (records t))
     where
       w : Node
       w = node x a b
@@ -158,26 +158,27 @@ module _ (t : List ℕ) (x y : ℕ) where
       place = first (standsIn t x y w) (records t)
 
       go : (u v : Bool) → Begins (cond (not u && not v) (cond (any (λ j. same w (getD l j free)) (length l)) l (l ++ (w ∷ []))) l) (newsIn t x y)
-          → cond u a (ref (cond v place (getD (slots (at (decode t)) (records t)) (placeOf (same w) free l) 0)))
-          ≡ cond u a (ref (cond v place (getD (slots (at (decode t)) (records t)) (placeOf (same w) free (newsIn t x y)) 0)))
+          → cond u a (ref (cond v place (getD into (placeOf (same w) free l) 0)))
+          ≡ cond u a (ref (cond v place (getD into (placeOf (same w) free (newsIn t x y)) 0)))
       go true v b = refl
       go false true b = refl
-      go false false b = ap (λ j. ref (getD (slots (at (decode t)) (records t)) j 0)) (sym (place-settled (same w) free l w (says-same w w .no refl) b))
+      go false false b = ap (λ j. ref (getD into j 0)) (sym (place-settled (same w) free l w (says-same w w .no refl) b))
 
   -- a crossing record, with l as the new records when its turn comes: X(f00, f10) and X(f01, f11) as they are found then
-  abbrev pub lowSettled : List Node → ℕ → ℕ
-  lowSettled l i = settledIn l (f00 (lookup t) y (ref i)) (f10 (lookup t) y (ref i))
+  abbrev pub lowSettled : List ℕ → List Node → ℕ → ℕ
+  lowSettled into l i = settledIn into l (f00 (lookup t) y (ref i)) (f10 (lookup t) y (ref i))
 
-  abbrev pub highSettled : List Node → ℕ → ℕ
-  highSettled l i = settledIn (lowNoted l i) (f01 (lookup t) y (ref i)) (f11 (lookup t) y (ref i))
+  abbrev pub highSettled : List ℕ → List Node → ℕ → ℕ
+  highSettled into l i = settledIn into (lowNoted l i) (f01 (lookup t) y (ref i)) (f11 (lookup t) y (ref i))
 
-  abbrev pub crossedNode : List Node → ℕ → Node
-  crossedNode l i = node y (lowSettled l i) (highSettled l i)
+  abbrev pub crossedNode : List ℕ → List Node → ℕ → Node
+  crossedNode into l i = node y (lowSettled into l i) (highSettled into l i)
 
-  pub becomes-then : (k : ℕ) → k < length (crossings t x y)
-      → crossedNode (newsAfter k) (getD (crossings t x y) k 0) ≡ becomesIn t x y (ref (getD (crossings t x y) k 0))
+  pub becomes-then : (into : List ℕ) (k : ℕ) → k < length (crossings t x y)
+      → crossedNode into (newsAfter k) (getD (crossings t x y) k 0) ≡ becomesIn t x y into (ref (getD (crossings t x y) k 0))
   unfolding asked becomes
-  becomes-then k h = ap₂ (node y) (settled-final (newsAfter k) _ _ (begins-on (noted-begins _ _) both)) (settled-final (lowNoted (newsAfter k) i) _ _ both)
+  becomes-then into k h =
+      ap₂ (node y) (settled-final into (newsAfter k) _ _ (begins-on (noted-begins _ _) both)) (settled-final into (lowNoted (newsAfter k) i) _ _ both)
     where
       i : ℕ
       i = getD (crossings t x y) k 0

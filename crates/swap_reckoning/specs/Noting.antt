@@ -6,23 +6,23 @@ use mathlib.Core.Logic.{_⊎_, inl, inr, ⊎-elim}
 use mathlib.Core.Path.{_≡_, refl, ap, ap₂, sym, _∙_}
 use native.Mathlib.Omega.{arith}
 use lib.Dec.{eqb, ltb}
-use lib.ListN.{length, getD, List·getD-eq-default}
+use lib.ListN.{length, getD, take, List·getD-eq-default}
+use lib.Seq.{getD-take, length-take-le}
 use borrow.Author.Tests.{ltb-true, lt-ltb, le-ltb, eqb-true, eqb-false, eq-eqb, ne-eqb}
 use Rattle.lists.specs.Begins.{placeOf}
 use Rattle.lists.specs.Collect.{Collected}
-use Rattle.lists.specs.Count.{count}
 use Rattle.lists.specs.Entries.{length-entries, entry-at, entry-below}
 use Rattle.lists.specs.First.{first, any, first-agrees}
 use Rattle.lists.specs.Says.{either-side}
 use Rattle.lists.specs.Truth.{by}
 use Rattle.lists.specs.Ranks.{which-finds, which-misses}
-use Rattle.lists.specs.Which.{which, which-length, which-agrees}
+use Rattle.lists.specs.Which.{which}
 use Rattle.diagrams.specs.Layout.{records, variableAt, lowAt, highAt, isFree}
 use Rattle.diagrams.specs.Node.{Node, free, node, at, ref, look, two-more}
 use Rattle.diagrams.specs.Decode.{nodeAt, decode}
 use Rattle.diagrams.specs.Lookup.{lookup, at-decode}
-use Rattle.swap_rules.specs.Record.{lowOf, highOf, isOf, isFreeNode, same}
-use Rattle.swap_rules.specs.Swap.{crosses, stands, isNew, slots, freeCount}
+use Rattle.swap_rules.specs.Record.{lowOf, highOf, isOf, same}
+use Rattle.swap_rules.specs.Swap.{crosses, stands, isNew}
 use Rattle.swap_records.specs.Kinds.{standsAt}
 use Rattle.swap_records.specs.Pairs.{PairRoom, pairsOf, putAt, length-pairs, pairs-at, put-next}
 use Rattle.swap_reckoning.specs.Asked.{standsIn, noted, settledIn}
@@ -40,37 +40,20 @@ module _ (x : ℕ) (p : News) where
       rw (length-pairs x (p .list) (p .count))
       (first-agrees _ (newAt (p .list) a b) (p .count) (λ j h. ap (same (node x a b)) (pairs-at x (p .list) (p .count) j h) ∙ rw (eq-eqb x x refl)))
 
--- ---- the free records: the slots
+-- ---- the slots
 
-free-is : (t : List ℕ) (i : ℕ) → i < records t → isFreeNode (at (decode t) i) ≡ isFree t i
-unfolding nodeAt isFreeNode
-free-is t i b = ap isFreeNode (at-decode t i b) ∙ go (isFree t i)
+-- slot j; record 0 past the last one
+slot-is : (list : List ℕ) (count j : ℕ) → count ≤ length list → slotAt list count j ≡ ref (getD (take count list) j 0)
+unfolding slotAt
+slot-is list count j room = two-more _ ∙ ap ref (either-side j count there past)
   where
-    go : (u : Bool) → isFreeNode (cond u free (node (variableAt t i) (lowAt t i) (highAt t i))) ≡ u
-    go true = refl
-    go false = refl
+    there : j < count → cond (ltb j count) (getD list j 0) 0 ≡ getD (take count list) j 0
+    there h = rw (lt-ltb j count h) (sym (getD-take count list j 0 h))
 
-pub slots-which : (t : List ℕ) → slots (at (decode t)) (records t) ≡ which (isFree t) (records t)
-unfolding slots
-slots-which t = which-agrees _ _ (records t) (free-is t)
-
-module _ (t : List ℕ) {list : List ℕ} {frees : ℕ} (F : Collected (isFree t) (records t) list frees) where
-  pub free-count : frees ≡ freeCount (at (decode t)) (records t)
-  unfolding slots freeCount
-  free-count = sym (length-entries F) ∙ ap length (sym (slots-which t)) ∙ which-length (λ i. isFreeNode (at (decode t) i)) (records t)
-
-  -- slot j; record 0 past the last one
-  slot-is : (j : ℕ) → slotAt list frees j ≡ ref (getD (slots (at (decode t)) (records t)) j 0)
-  unfolding slotAt
-  slot-is j = two-more _ ∙ ap ref (rw (slots-which t) (either-side j frees there past))
-    where
-      there : j < frees → cond (ltb j frees) (getD list j 0) 0 ≡ getD (which (isFree t) (records t)) j 0
-      there h = rw (lt-ltb j frees h) (entry-at F j h)
-
-      past : frees ≤ j → cond (ltb j frees) (getD list j 0) 0 ≡ getD (which (isFree t) (records t)) j 0
-      past h =
-          let l : length (which (isFree t) (records t)) ≤ j = omega (arith, length-entries F) in
-          rw (le-ltb j frees h) (sym (List·getD-eq-default (which (isFree t) (records t)) 0 l))
+    past : count ≤ j → cond (ltb j count) (getD list j 0) 0 ≡ getD (take count list) j 0
+    past h =
+        let l : length (take count list) ≤ j = omega (arith, length-take-le count list room) in
+        rw (le-ltb j count h) (sym (List·getD-eq-default (take count list) 0 l))
 
 -- ---- the records that stand: the code looks among these, the definition among all
 
@@ -155,16 +138,16 @@ module _ (t : List ℕ) (x y : ℕ) where
         go false false true = refl
         go false false false = put-next x (p .list) (p .count) a b room
 
-    pub settled-in : (p : News) {list : List ℕ} {frees : ℕ} → Collected (isFree t) (records t) list frees
-        → settledAt t standing m p a b list frees ≡ settledIn t x y (newsOf x p) a b
+    pub settled-in : (p : News) (list : List ℕ) (all-slots : ℕ) → all-slots ≤ length list
+        → settledAt t standing m p a b list all-slots ≡ settledIn t x y (take all-slots list) (newsOf x p) a b
     unfolding settledAt settledIn
-    settled-in p {list} {frees} F = ap (cond (eqb a b) a) (rw standing-any (go (by (any (matchesAt t standing a b) m))))
+    settled-in p list all-slots room = ap (cond (eqb a b) a) (rw standing-any (go (by (any (matchesAt t standing a b) m))))
       where
         place : ℕ
         place = first (newAt (p .list) a b) (p .count)
 
         go : (any (matchesAt t standing a b) m ≡ true) ⊎ (any (matchesAt t standing a b) m ≡ false)
-            → cond (any (matchesAt t standing a b) m) (getD standing found 0 + 2) (slotAt list frees place)
-            ≡ ref (cond (any (matchesAt t standing a b) m) sought (getD (slots (at (decode t)) (records t)) (placeOf (same (node x a b)) free (newsOf x p)) 0))
+            → cond (any (matchesAt t standing a b) m) (getD standing found 0 + 2) (slotAt list all-slots place)
+            ≡ ref (cond (any (matchesAt t standing a b) m) sought (getD (take all-slots list) (placeOf (same (node x a b)) free (newsOf x p)) 0))
         go (inl e) = rw e (two-more _ ∙ ap ref (standing-finds (ltb-true _ _ e)))
-        go (inr e) = rw e (slot-is t F place ∙ ap (λ j. ref (getD (slots (at (decode t)) (records t)) j 0)) (sym (new-first x p a b)))
+        go (inr e) = rw e (slot-is list all-slots place room ∙ ap (λ j. ref (getD (take all-slots list) j 0)) (sym (new-first x p a b)))

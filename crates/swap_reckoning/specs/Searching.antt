@@ -26,7 +26,7 @@ newAt news a b k = eqb a (getD news (2 * k) 0) && eqb b (getD news (2 * k + 1) 0
 
 -- the reference of the slot that new record j goes into; past the last slot, that of record 0
 unfoldable pub slotAt : List ℕ → ℕ → ℕ → ℕ
-slotAt slots free j = cond (ltb j free) (getD slots j 0) 0 + 2
+slotAt slots count j = cond (ltb j count) (getD slots j 0) 0 + 2
 
 -- the new records: low and high of each, and how many
 pub record News : Type 0 where
@@ -44,26 +44,30 @@ module _ (t standing : List ℕ) (count : ℕ) (p : News) (a b : ℕ) where
 
   -- what is then found
   unfoldable pub settledAt : List ℕ → ℕ → ℕ
-  settledAt slots free =
+  settledAt slots all =
       cond (eqb a b) a
       (cond (any (matchesAt t standing a b) count) (getD standing (first (matchesAt t standing a b) count) 0 + 2)
-      (slotAt slots free (first (newAt (p .list) a b) (p .count))))
+      (slotAt slots all (first (newAt (p .list) a b) (p .count))))
 
 -- ---- one request
 
 -- the counts with so many new records
 abbrev pub withNeeded : Counts → ℕ → Counts
-withNeeded q n = record { crossing = q .crossing; standing = q .standing; needed = n; free = q .free }
+withNeeded q n = record { crossing = q .crossing; standing = q .standing; needed = n; free = q .free; slots = q .slots }
+
+-- and with so many slots
+abbrev pub withSlots : Counts → ℕ → Counts
+withSlots q n = record { crossing = q .crossing; standing = q .standing; needed = q .needed; free = q .free; slots = n }
 
 -- the lists can be searched, and there is room for a new record
 pub record Searchable (t standing slots news : List ℕ) (q : Counts) : Type 0 where
   pub few : records t ≤ mostRecords
   pub standing-in : Inside t standing (q .standing)
-  pub slots-in : Inside t slots (q .free)
+  pub slots-in : Inside t slots (q .slots)
   pub room : PairRoom news (q .needed)
 
 pub record Noted (t standing slots news : List ℕ) (q : Counts) (a b : ℕ) (news′ : List ℕ) (r : Settled) : Type 0 where
   pub noted : record { list = news′; count = r .needed } ≡ notePair t standing (q .standing) (record { list = news; count = q .needed }) a b
-  pub settled : r .reference .0 ≡ settledAt t standing (q .standing) (record { list = news; count = q .needed }) a b slots (q .free)
+  pub settled : r .reference .0 ≡ settledAt t standing (q .standing) (record { list = news; count = q .needed }) a b slots (q .slots)
   pub small : r .reference .0 < 65536
   pub few : r .needed ≤ q .needed + 1

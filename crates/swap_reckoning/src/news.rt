@@ -7,7 +7,7 @@ ghost use Rattle.diagrams.specs.Layout.{mostRecords, InTable};
 ghost use Rattle.swap_records.specs.Listed.{Inside};
 ghost use Rattle.swap_records.specs.Pairs.{PairRoom};
 ghost use Rattle.swap_reckoning.specs.Searching.{matchesAt, newAt, slotAt, Searchable, Noted};
-ghost use Rattle.swap_reckoning.specs.Reckoned.{TurnRoom, Asks, Answered, Sorted, Turn, Turns};
+ghost use Rattle.swap_reckoning.specs.Reckoned.{TurnRoom, Asks, Answered, Sorted, slotsOf, Turn, Turns};
 use super::Counts;
 use diagrams::MOST_RECORDS;
 use diagrams::RecordNumber;
@@ -77,12 +77,12 @@ fn find_new(news: &[u16], count: usize, a: Reference, b: Reference) -> usize
     count
 }
 
-// The reference of the free record that new record j goes into. Past the last one there is no room, and nobody uses the number.
-fn slot(slots: &[u16], free: usize, j: usize) -> Reference
-    requires { ⌜ free ≤ length (now slots) ⌝ }
-    ensures { λ r. ⌜ r .0 ≡ slotAt (now (slots .entry)) free j ⌝ }
+// The reference of the slot that new record j goes into. Past the last one there is no room, and nobody uses the number.
+fn slot(slots: &[u16], count: usize, j: usize) -> Reference
+    requires { ⌜ count ≤ length (now slots) ⌝ }
+    ensures { λ r. ⌜ r .0 ≡ slotAt (now (slots .entry)) count j ⌝ }
 {
-    if j < free {
+    if j < count {
         return collect::entry(slots, j).reference();
     }
     RecordNumber(0).reference()
@@ -121,7 +121,7 @@ fn note(
         return Settled { reference, needed };
     }
     let j = find_new(news, needed, a, b);
-    let reference = slot(slots, counts.free, j);
+    let reference = slot(slots, counts.slots, j);
     if j < needed {
         return Settled { reference, needed };
     }
@@ -150,7 +150,8 @@ fn note_both(
     i: RecordNumber,
 ) -> Crossed
     requires { ⌜ Asks (now table) pair (now standing) (now slots) (now news) counts (i .0) ⌝ }
-    ensures { λ r. ⌜ Answered (now (table .entry)) pair (i .0) (now (news .entry)) (counts .needed) (now (news .exit)) r ⌝ }
+    ensures { λ r. ⌜ Answered (now (table .entry)) pair (slotsOf counts (now (slots .entry))) (i .0) (now (news .entry)) (counts .needed)
+        (now (news .exit)) r ⌝ }
 {
     let g = swap_records::four(table, pair.y, i);
     let first = note(table, standing, slots, news, counts, g.f00, g.f10);
@@ -178,7 +179,8 @@ fn take_turn(
     k: usize,
 ) -> usize
     requires { ⌜ Turn (now table) pair (now crossing) (now standing) (now slots) (now news) (now kept) counts k ⌝ }
-    ensures { λ n. ⌜ Turns (now (table .entry)) pair (now (crossing .entry)) (now (news .exit)) (now (kept .exit)) n (k + 1) ⌝ }
+    ensures { λ n. ⌜ Turns (now (table .entry)) pair (slotsOf counts (now (slots .entry))) (now (crossing .entry)) (now (news .exit)) (now (kept .exit))
+        n (k + 1) ⌝ }
 {
     let i = collect::entry(crossing, k);
     let r = note_both(table, pair, standing, slots, news, counts, i);
@@ -198,7 +200,8 @@ pub fn take_turns(
     start: Counts,
 ) -> usize
     requires { ⌜ Sorted (now table) pair (now crossing) (now standing) (now slots) start × TurnRoom (now news) (now kept) ⌝ }
-    ensures { λ n. ⌜ Turns (now (table .entry)) pair (now (crossing .entry)) (now (news .exit)) (now (kept .exit)) n (start .crossing) ⌝ }
+    ensures { λ n. ⌜ Turns (now (table .entry)) pair (slotsOf start (now (slots .entry))) (now (crossing .entry)) (now (news .exit)) (now (kept .exit))
+        n (start .crossing) ⌝ }
 {
     let m = start.crossing;
     let mut needed: usize = 0;

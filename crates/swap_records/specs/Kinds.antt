@@ -2,13 +2,13 @@
 use Prim.Native.Nat.{ℕ, _<_}
 use mathlib.Core.Bool.{Bool, true, false, cond, not, _&&_}
 use mathlib.Core.List.{List}
-use mathlib.Core.Path.{_≡_, refl}
+use mathlib.Core.Path.{_≡_, refl, ap, _∙_}
 use lib.Dec.{eqb}
 use Rattle.diagrams.specs.Layout.{records, variableAt, lowAt, highAt, isFree, isUsed}
-use Rattle.diagrams.specs.Node.{free, node, pick, ref, look}
-use Rattle.diagrams.specs.Decode.{nodeAt}
+use Rattle.diagrams.specs.Node.{free, node, pick, at, ref, look}
+use Rattle.diagrams.specs.Decode.{nodeAt, decode}
 use Rattle.diagrams.specs.Lookup.{lookup, at-decode}
-use Rattle.swap_rules.specs.Record.{isOf}
+use Rattle.swap_rules.specs.Record.{isFreeNode, isOf}
 use Rattle.swap_rules.specs.Swap.{crosses}
 
 -- ---- the records of this swap: of the variable v; of x, those that cross and those that stand
@@ -31,5 +31,14 @@ unfolding look nodeAt isOf
 of-is t v i h = rw (at-decode t i h) (go (isFree t i))
   where
     go : (u : Bool) → isOf v (cond u free (node (variableAt t i) (lowAt t i) (highAt t i))) ≡ (not u && eqb (variableAt t i) v)
+    go true = refl
+    go false = refl
+
+-- record i is free, in the bytes and in the records
+pub free-is : (t : List ℕ) (i : ℕ) → i < records t → isFreeNode (at (decode t) i) ≡ isFree t i
+unfolding nodeAt isFreeNode
+free-is t i b = ap isFreeNode (at-decode t i b) ∙ go (isFree t i)
+  where
+    go : (u : Bool) → isFreeNode (cond u free (node (variableAt t i) (lowAt t i) (highAt t i))) ≡ u
     go true = refl
     go false = refl

@@ -24,7 +24,7 @@ pub fn no_entries() -> [u16; MOST_RECORDS]
 }
 
 // One entry more where the flag says so. It is written in any case, which costs less than a branch.
-fn push_if(list: &mut [u16], k: usize, b: bool, i: RecordNumber) -> usize
+pub fn push_if(list: &mut [u16], k: usize, b: bool, i: RecordNumber) -> usize
     requires { ⌜ (k < length (now list)) × (i .0 < 65536) ⌝ }
     ensures { λ n. ⌜ Pushed b (i .0) (now (list .entry)) k (now (list .exit)) n ⌝ }
 {

@@ -1,200 +1,231 @@
--- The image of the table afterwards: the records that stay, over which the new and the crossed ones are stored, are the definition's.
-use Prim.Native.Nat.{ℕ, _+_, _*_, _≤_, _<_}
-use mathlib.Core.Bool.{Bool, true, false, cond, _&&_}
+-- The image of the table afterwards: the records as they were, over which what dies, the new and the crossed ones are stored, are the definition's.
+use Prim.Native.Nat.{ℕ, _+_, _-_, _*_, _%_, _≤_, _<_}
+use mathlib.Core.Bool.{Bool, true, false, cond}
 use mathlib.Core.List.{List, _++_}
-use mathlib.Core.Logic.{_⊎_, inl, inr}
 use mathlib.Core.Path.{_≡_, refl, ap, ap₂, sym, _∙_}
 use native.Mathlib.Omega.{arith}
-use borrow.Author.Tests.{ltb-true, le-ltb}
+use borrow.Author.Tests.{ltb-true}
 use lib.Dec.{ltb}
-use lib.ListN.{length, getD, take, drop}
-use lib.Seq.{take-at}
+use lib.ListN.{length, getD, take, drop, length-append}
+use lib.Seq.{take-at, getD-append-add}
+use Rattle.lists.specs.Collect.{length-held}
 use Rattle.lists.specs.Count.{count}
-use Rattle.lists.specs.Entries.{through, length-entries, entry-rank, collected-first, fold-entries}
+use Rattle.lists.specs.Entries.{through, held-at, fold-which, fold-entries}
 use Rattle.lists.specs.Fold.{fold, fold-agrees}
-use Rattle.lists.specs.Ranks.{which-index, which-absent}
+use Rattle.lists.specs.Places.{placeIn}
 use Rattle.lists.specs.Tabulate.{tabulate, length-tabulate, tabulate-agrees}
-use Rattle.lists.specs.Truth.{by, and-left, and-right}
+use Rattle.lists.specs.Which.{which, which-length}
 use Rattle.diagrams.specs.Edition.{plain}
-use Rattle.diagrams.specs.Layout.{recordSize, mostRecords, records, isFree}
+use Rattle.diagrams.specs.Layout.{recordSize, records, isFree}
 use Rattle.diagrams.specs.Node.{Node, free, at, ref}
 use Rattle.diagrams.specs.Decode.{nodeAt, decode, eight, encode}
 use Rattle.diagrams.specs.Lookup.{length-decode, at-decode, rootsOf}
-use Rattle.diagrams.specs.Store.{storedAt, length-encode, stores-encode, stores-where}
-use Rattle.check_sizes.specs.Sizes.{TableSizes}
+use Rattle.diagrams.specs.Store.{storedAt, length-encode, stores-encode, stores-where, stores-into}
 use Rattle.swap_rules.specs.Swap.{slotIndex, filled, recordAfter, swapped}
-use Rattle.swap_records.specs.Kinds.{ofAt, crossesAt}
-use Rattle.swap_records.specs.Listed.{FreeListed, Inside, inside-of}
+use Rattle.swap_records.specs.Kinds.{crossesAt}
+use Rattle.swap_records.specs.Listed.{Inside, inside-of}
 use Rattle.swap_records.specs.Pairs.{pairAt, pairs-at}
 use Rattle.swap_records.specs.declared.Pair.{Pair}
+use Rattle.swap_names.specs.Dying.{diesIn}
+use Rattle.swap_names.specs.Slots.{slotsIn, SlotsListed, slots-which, slots-apart, slots-inside}
 use Rattle.swap_reckoning.specs.Asked.{newsIn, becomesIn}
-use Rattle.swap_names.specs.Naming.{unnamed}
-use Rattle.swap_names.specs.Dying.{diesIn, Counted}
-use Rattle.swap_reckoning.specs.Noting.{slots-which}
 use Rattle.swap_reckoning.specs.Reckoned.{Reckoned, needed-is}
 use Rattle.swap_reckoning.specs.declared.Counts.{Counts}
 
 -- ---- one record stored
 
--- record i, free where it is a y record without a name
-unfoldable pub stayingAt : List ℕ → ℕ → List ℕ → ℕ → Node
-stayingAt t y names i = cond (ofAt t y i && unnamed names i) free (nodeAt t i)
+-- record i as it is
+unfoldable pub stayed : List ℕ → List ℕ → ℕ → List ℕ
+stayed t l i = storedAt l i (eight (nodeAt t i))
 
-unfoldable pub stayed : List ℕ → ℕ → List ℕ → List ℕ → ℕ → List ℕ
-stayed t y names l i = storedAt l i (eight (stayingAt t y names i))
+-- a free one, at number from + k of the list
+unfoldable pub freed : ℕ → List ℕ → List ℕ → ℕ → List ℕ
+freed from numbers l k = storedAt l (getD numbers (from + k) 0) (eight free)
 
 -- record k of the pairs, at number k of the list
 unfoldable pub placed : ℕ → List ℕ → List ℕ → List ℕ → ℕ → List ℕ
 placed v pairs numbers l k = storedAt l (getD numbers k 0) (eight (pairAt v pairs k))
 
--- there is a count for the reference of each record
-pub record NamesFor (t names : List ℕ) : Type 0 where
-  pub few : records t ≤ mostRecords
-  pub long : length names ≡ mostRecords + 2
+-- all records as they are, and then what stands after the free ones among the slots as free records
+unfoldable pub living : List ℕ → List ℕ → Counts → List ℕ → List ℕ
+living t slots q image = fold (freed (q .free) slots) (fold (stayed t) image (records t)) (q .slots - q .free)
+
+-- the image has room for the table, and each slot is a record of it
+pub record Copyable (t slots : List ℕ) (q : Counts) (image : List ℕ) : Type 0 where
+  pub long : length t ≤ length image
+  pub inside : Inside t slots (q .slots)
+  pub frees : q .free ≤ q .slots
 
 -- ---- the whole image
 
+-- the slots of the swap, the first of which are the free records
+pub record SlotsFor (t r : List ℕ) (p : Pair) (slots : List ℕ) (q : Counts) : Type 0 where
+  pub listed : SlotsListed t r p slots (q .slots)
+  pub frees : q .free ≡ count (isFree t) (records t)
+
 -- the swap is reckoned and has room, and the image has room for the table
-pub record Fillable (t r : List ℕ) (p : Pair) (crossing standing slots news kept : List ℕ) (q : Counts) (image : List ℕ) : Type 0 where
-  pub sized : TableSizes t r
+pub record Fillable (t : List ℕ) (p : Pair) (crossing slots news kept : List ℕ) (q : Counts) (image : List ℕ) : Type 0 where
+  pub whole-records : length t % recordSize ≡ 0
   pub small-x : p .x .0 < 256
   pub small-y : p .y .0 < 256
-  pub reckoned : Reckoned t p crossing standing slots news kept q
-  pub fit : q .needed ≤ q .free
-  pub long : length t ≤ length image
+  pub reckoned : Reckoned t p crossing slots news kept q
+  pub copyable : Copyable t slots q image
+  pub fit : q .needed ≤ q .slots
 
--- the front of the image is the table afterwards
-pub record Filled (t r : List ℕ) (p : Pair) (image : List ℕ) : Type 0 where
-  pub is : take (length t) image ≡ encode (swapped plain (decode t) (p .x .0) (p .y .0) (rootsOf r))
-
--- ---- which of the slots a record is
-
-module _ (t : List ℕ) where
-  index-free : (i : ℕ) → i < records t → isFree t i ≡ true → slotIndex (at (decode t)) (records t) i ≡ count (isFree t) i
-  unfolding slotIndex
-  index-free i h e = rw (slots-which t) (which-index (isFree t) (records t) i h e)
-
-  -- a used one is none of the slots
-  index-used : {list : List ℕ} {frees : ℕ} → FreeListed t list frees → (i : ℕ) → isFree t i ≡ false → slotIndex (at (decode t)) (records t) i ≡ frees
-  unfolding slotIndex
-  index-used F i e = rw (slots-which t) (which-absent (isFree t) (records t) i e ∙ length-entries F)
-
--- free record i is among the first n
-abbrev taken : List ℕ → ℕ → ℕ → Bool
-taken t n i = isFree t i && ltb (count (isFree t) i) n
+-- the front of the image is the table afterwards, with the roots for which these are the slots
+pub record Filled (t : List ℕ) (p : Pair) (slots : List ℕ) (q : Counts) (image : List ℕ) : Type 0 where
+  pub is : (r : List ℕ) → SlotsFor t r p slots q → take (length t) image ≡ encode (swapped plain (decode t) (p .x .0) (p .y .0) (rootsOf r))
 
 -- ---- the rows of records in the image, one after the other
 
-module _ {t : List ℕ} {p : Pair} {crossing standing slots news kept : List ℕ} {q : Counts}
-    (R : Reckoned t p crossing standing slots news kept q) (d : List ℕ) where
+-- the bytes of a record for each of the table's, and what stands after them
+abbrev row : List ℕ → List ℕ → (ℕ → Node) → List ℕ
+row t d f = encode (tabulate (records t) f) ++ d
+
+module _ {t r : List ℕ} {p : Pair} {slots : List ℕ} {q : Counts} (S : SlotsFor t r p slots q) where
+  -- the free slots, and as many as die
+  all-slots : q .slots ≡ q .free + length (which (diesIn t r p) (records t))
+  all-slots =
+      sym (length-held (S .listed .held)) ∙ ap length (slots-which t r p) ∙ length-append (which (isFree t) (records t)) _
+      ∙ ap (λ m. m + length (which (diesIn t r p) (records t))) (which-length (isFree t) (records t) ∙ sym (S .frees))
+
+  pub free-first : q .free ≤ q .slots
+  free-first = omega (arith, all-slots)
+
+  -- what dies stands after the free ones
+  dying-at : (j : ℕ) → j < length (which (diesIn t r p) (records t)) → getD slots (q .free + j) 0 ≡ getD (which (diesIn t r p) (records t)) j 0
+  dying-at j h =
+      held-at (S .listed .held) (q .free + j) (omega (arith, all-slots))
+      ∙ ap₂ (λ (l : List ℕ) (m : ℕ). getD l (m + j) 0) (slots-which t r p) (S .frees ∙ sym (which-length (isFree t) (records t)))
+      ∙ getD-append-add (which (isFree t) (records t)) (which (diesIn t r p) (records t)) j 0
+
+  dead-row : (d : List ℕ) (f : ℕ → Node) → fold (freed (q .free) slots) (row t d f) (q .slots - q .free) ≡ row t d (λ i. cond (diesIn t r p i) free (f i))
+  unfolding freed
+  dead-row d f =
+      ap (fold (freed (q .free) slots) (row t d f)) many
+      ∙ fold-agrees _ (through (which (diesIn t r p) (records t)) into) (row t d f) _ (λ l j b. ap (λ i. storedAt l i (eight free)) (dying-at j b))
+      ∙ fold-which into (diesIn t r p) (row t d f) (records t)
+      ∙ stores-where (diesIn t r p) (λ i. free) f d (records t)
+    where
+      into : List ℕ → ℕ → List ℕ
+      into l i = storedAt l i (eight free)
+
+      many : q .slots - q .free ≡ length (which (diesIn t r p) (records t))
+      many = omega (arith, all-slots)
+
+  -- the new records, each in its slot
+  new-row : (d : List ℕ) (x : ℕ) (news : List ℕ) (f : ℕ → Node) → q .needed ≤ q .slots → fold (placed x news slots) (row t d f) (q .needed)
+      ≡ row t d (λ i. cond (ltb (placeIn (slotsIn t r p) i) (q .needed)) (pairAt x news (placeIn (slotsIn t r p) i)) (f i))
+  unfolding placed
+  new-row d x news f h =
+      fold-agrees _ (λ l j. storedAt l (getD (slotsIn t r p) j 0) (eight (pairAt x news j))) (row t d f) (q .needed)
+      (λ l j b. ap (λ i. storedAt l i (eight (pairAt x news j))) (held-at (S .listed .held) j (omega arith)))
+      ∙ stores-into (slotsIn t r p) (slots-apart t r p) (pairAt x news) f d (records t) inside (q .needed) (rw (length-held (S .listed .held)) h)
+    where
+      inside : (j : ℕ) → j < length (slotsIn t r p) → getD (slotsIn t r p) j 0 < records t
+      inside j b =
+          let l : j < q .slots = rw (length-held (S .listed .held)) at b in
+          rw (← held-at (S .listed .held) j l) (omega (arith, slots-inside (S .listed) .at j l))
+
+module _ {t : List ℕ} {p : Pair} {crossing slots news kept : List ℕ} {q : Counts} (R : Reckoned t p crossing slots news kept q) (d : List ℕ) where
   abbrev x : ℕ
   x = p .x .0
 
   abbrev y : ℕ
   y = p .y .0
 
-  -- the bytes of a record for each of the table's, and what stands after them
-  abbrev row : (ℕ → Node) → List ℕ
-  row f = encode (tabulate (records t) f) ++ d
-
-  new-row : (f : ℕ → Node) → q .needed ≤ q .free
-      → fold (placed x news slots) (row f) (q .needed) ≡ row (λ i. cond (taken t (q .needed) i) (pairAt x news (count (isFree t) i)) (f i))
-  unfolding placed
-  new-row f h =
-      fold-agrees _ (through slots into) (row f) (q .needed)
-      (λ l j b. ap (λ k. storedAt l (getD slots j 0) (eight (pairAt x news k))) (sym (entry-rank free-listed j (omega arith))))
-      ∙ fold-entries into (taken t (q .needed)) (collected-first free-listed (q .needed) h) (row f)
-      ∙ stores-where (taken t (q .needed)) (λ i. pairAt x news (count (isFree t) i)) f d (records t)
-    where
-      free-listed : FreeListed t slots (q .free)
-      free-listed = R .sorted .sources .slots-are
-
-      -- a slot is known by the free records before it
-      into : List ℕ → ℕ → List ℕ
-      into l i = storedAt l i (eight (pairAt x news (count (isFree t) i)))
-
   crossed-row : (f : ℕ → Node)
-      → fold (placed y kept crossing) (row f) (q .crossing) ≡ row (λ i. cond (crossesAt t x y i) (becomesIn t x y (ref i)) (f i))
+      → fold (placed y kept crossing) (row t d f) (q .crossing) ≡ row t d (λ i. cond (crossesAt t x y i) (becomesIn t x y (take (q .slots) slots) (ref i)) (f i))
   unfolding placed
   crossed-row f =
-      fold-agrees _ (through crossing into) (row f) (q .crossing) (λ l j b. ap (λ m. storedAt l (getD crossing j 0) (eight m)) (R .kept-are j b))
-      ∙ fold-entries into (crossesAt t x y) (R .sorted .crossing-are) (row f)
-      ∙ stores-where (crossesAt t x y) (λ i. becomesIn t x y (ref i)) f d (records t)
+      fold-agrees _ (through crossing into) (row t d f) (q .crossing) (λ l j b. ap (λ m. storedAt l (getD crossing j 0) (eight m)) (R .kept-are j b))
+      ∙ fold-entries into (crossesAt t x y) (R .crossing-are) (row t d f)
+      ∙ stores-where (crossesAt t x y) (λ i. becomesIn t x y (take (q .slots) slots) (ref i)) f d (records t)
     where
       into : List ℕ → ℕ → List ℕ
-      into l i = storedAt l i (eight (becomesIn t x y (ref i)))
+      into l i = storedAt l i (eight (becomesIn t x y (take (q .slots) slots) (ref i)))
 
   -- ---- record i is the definition's
 
-  module _ (r names : List ℕ) (C : Counted t r p names) (fit : q .needed ≤ q .free) (i : ℕ) (h : i < records t) where
-    taken-is : taken t (q .needed) i ≡ filled plain (at (decode t)) (records t) x y i
-    unfolding filled
-    taken-is = rw (← needed-is R) (go (by (isFree t i)))
-      where
-        go : (isFree t i ≡ true) ⊎ (isFree t i ≡ false) → taken t (q .needed) i ≡ ltb (slotIndex (at (decode t)) (records t) i) (q .needed)
-        go (inl e) = rw (e, index-free t i h e)
-        go (inr e) = rw (e, index-used t (R .sorted .sources .slots-are) i e) (sym (le-ltb _ _ fit))
+  module _ {r : List ℕ} (S : SlotsFor t r p slots q) (i : ℕ) (h : i < records t) where
+    abbrev index : ℕ
+    index = placeIn (slotsIn t r p) i
 
-    new-is : taken t (q .needed) i ≡ true → pairAt x news (count (isFree t) i) ≡ getD (newsIn t x y) (slotIndex (at (decode t)) (records t) i) free
-    new-is e =
-        sym (pairs-at x news (q .needed) (count (isFree t) i) (ltb-true _ _ (and-right (isFree t i) _ e)))
-        ∙ ap₂ (λ (l : List Node) (j : ℕ). getD l j free) (R .news-are) (sym (index-free t i h (and-left _ _ e)))
+    other-is : (u : Bool) → ltb index (q .needed) ≡ u
+        → cond u (pairAt x news index) (cond (diesIn t r p i) free (nodeAt t i)) ≡ cond u (getD (newsIn t x y) index free) (cond (diesIn t r p i) free (at (decode t) i))
+    other-is true e = sym (pairs-at x news (q .needed) index (ltb-true _ _ e)) ∙ ap (λ (l : List Node). getD l index free) (R .news-are)
+    other-is false e = ap (cond (diesIn t r p i) free) (sym (at-decode t i h))
 
-    other-is : (u : Bool) → taken t (q .needed) i ≡ u
-        → cond u (pairAt x news (count (isFree t) i)) (stayingAt t y names i)
-        ≡ cond u (getD (newsIn t x y) (slotIndex (at (decode t)) (records t) i) free) (cond (diesIn t r p i) free (at (decode t) i))
-    unfolding stayingAt
-    other-is true e = new-is e
-    other-is false e = ap₂ (λ (b : Bool) (m : Node). cond b free m) (C .tell i h) (sym (at-decode t i h))
-
-    after-is : cond (crossesAt t x y i) (becomesIn t x y (ref i)) (cond (taken t (q .needed) i) (pairAt x news (count (isFree t) i)) (stayingAt t y names i))
+    after-is : cond (crossesAt t x y i) (becomesIn t x y (take (q .slots) slots) (ref i))
+        (cond (ltb index (q .needed)) (pairAt x news index) (cond (diesIn t r p i) free (nodeAt t i)))
         ≡ recordAfter plain (at (decode t)) (records t) x y (rootsOf r) i
-    unfolding recordAfter
-    after-is = ap (cond (crossesAt t x y i) (becomesIn t x y (ref i))) (rw (← taken-is) (other-is (taken t (q .needed) i) refl))
+    unfolding recordAfter filled slotIndex
+    after-is =
+        ap₂ (λ (l : List ℕ) (m : Node). cond (crossesAt t x y i) (becomesIn t x y l (ref i)) m) (S .listed .held .entries) (other-is _ refl)
+        ∙ ap (λ m. cond (crossesAt t x y i) (becomesIn t x y (slotsIn t r p) (ref i))
+        (cond (ltb index m) (getD (newsIn t x y) index free) (cond (diesIn t r p i) free (at (decode t) i)))) (needed-is R)
 
 -- ---- the image as it is filled
 
--- its length stays, so that it has each record of the table
-module _ {t r : List ℕ} {p : Pair} {crossing standing slots news kept : List ℕ} {q : Counts} {image : List ℕ}
-    (F : Fillable t r p crossing standing slots news kept q image) (l₁ : List ℕ) (same₁ : length l₁ ≡ length image) where
-  pub slots-inside : Inside l₁ slots (q .needed)
-  slots-inside =
-      let s : Inside t slots (q .free) = inside-of (F .reckoned .sorted .sources .slots-are) in
-      record { room = omega (arith, s .room, F .fit); at = λ k h. omega (arith, s .at k (omega (arith, F .fit)), F .long) }
+pub copies : {t slots : List ℕ} {q : Counts} {image : List ℕ} → Copyable t slots q image → (l₁ : List ℕ) → length l₁ ≡ length image
+    → Inside l₁ slots (q .free + (q .slots - q .free))
+copies {t} {slots} {q} c l₁ same =
+    let e : q .free + (q .slots - q .free) ≡ q .slots = omega (arith, c .frees) in
+    rw e (record { room = c .inside .room; at = λ k h. omega (arith, c .inside .at k h, c .long) })
+
+pub copied-living : (t slots : List ℕ) (q : Counts) (image : List ℕ) {l₁ l₂ : List ℕ} → l₁ ≡ fold (stayed t) image (records t)
+    → l₂ ≡ fold (freed (q .free) slots) l₁ (q .slots - q .free) → l₂ ≡ living t slots q image
+unfolding living
+copied-living t slots q image e h = rw (← e) h
+
+module _ {t : List ℕ} {p : Pair} {crossing slots news kept : List ℕ} {q : Counts} {image : List ℕ}
+    (F : Fillable t p crossing slots news kept q image) (l₁ : List ℕ) (same₁ : length l₁ ≡ length image) where
+  -- its length stays, so that it has each record of the table
+  pub news-inside : Inside l₁ slots (q .needed)
+  news-inside =
+      let c : Copyable t slots q image = F .copyable in
+      record { room = omega (arith, c .inside .room, F .fit); at = λ k h. omega (arith, c .inside .at k (omega (arith, F .fit)), c .long) }
 
   pub crossing-inside : {l₂ : List ℕ} → length l₂ ≡ length l₁ → Inside l₂ crossing (q .crossing)
   crossing-inside same₂ =
-      let s : Inside t crossing (q .crossing) = inside-of (F .reckoned .sorted .crossing-are) in
-      record { room = s .room; at = λ k h. omega (arith, s .at k h, F .long) }
+      let s : Inside t crossing (q .crossing) = inside-of (F .reckoned .crossing-are) in
+      record { room = s .room; at = λ k h. omega (arith, s .at k h, F .copyable .long) }
 
-module _ {t r : List ℕ} {p : Pair} {crossing standing slots news kept : List ℕ} {q : Counts} {image : List ℕ}
-    (F : Fillable t r p crossing standing slots news kept q image) {names : List ℕ} (C : Counted t r p names)
-    {l₁ l₂ l₃ : List ℕ} (stay : l₁ ≡ fold (stayed t (p .y .0) names) image (records t))
+module _ {t : List ℕ} {p : Pair} {crossing slots news kept : List ℕ} {q : Counts} {image : List ℕ}
+    (F : Fillable t p crossing slots news kept q image) {l₁ l₂ l₃ : List ℕ} (live : l₁ ≡ living t slots q image)
     (new : l₂ ≡ fold (placed (p .x .0) news slots) l₁ (q .needed)) (cross : l₃ ≡ fold (placed (p .y .0) kept crossing) l₂ (q .crossing)) where
   rest : List ℕ
   rest = drop (recordSize * records t) image
 
-  nodes : List Node
-  nodes = swapped plain (decode t) (p .x .0) (p .y .0) (rootsOf r)
+  module _ (r : List ℕ) (S : SlotsFor t r p slots q) where
+    nodes : List Node
+    nodes = swapped plain (decode t) (p .x .0) (p .y .0) (rootsOf r)
 
-  first-row : l₁ ≡ encode (tabulate (records t) (stayingAt t (p .y .0) names)) ++ rest
-  unfolding stayed rest
-  first-row = stay ∙ stores-encode image (stayingAt t (p .y .0) names) (records t)
+    first-row : l₁ ≡ row t rest (λ i. cond (diesIn t r p i) free (nodeAt t i))
+    unfolding stayed living rest
+    first-row =
+        live
+        ∙ ap (λ l. fold (freed (q .free) slots) l (q .slots - q .free)) (stores-encode image (nodeAt t) (records t))
+        ∙ dead-row S rest (nodeAt t)
 
-  last-row : l₃ ≡ encode nodes ++ rest
-  unfolding swapped nodes
-  last-row =
-      cross
-      ∙ ap (λ l. fold (placed (p .y .0) kept crossing) l (q .crossing))
-      (new ∙ ap (λ l. fold (placed (p .x .0) news slots) l (q .needed)) first-row ∙ new-row (F .reckoned) rest _ (F .fit))
-      ∙ crossed-row (F .reckoned) rest _
-      ∙ ap (λ l. encode l ++ rest)
-      (tabulate-agrees (records t) _ _ (after-is (F .reckoned) rest r names C (F .fit))
-      ∙ ap (λ n. tabulate n (recordAfter plain (at (decode t)) n (p .x .0) (p .y .0) (rootsOf r))) (sym (length-decode t)))
+    last-row : l₃ ≡ encode nodes ++ rest
+    unfolding swapped nodes
+    last-row =
+        cross
+        ∙ ap (λ l. fold (placed (p .y .0) kept crossing) l (q .crossing))
+        (new ∙ ap (λ l. fold (placed (p .x .0) news slots) l (q .needed)) first-row ∙ new-row S rest (p .x .0) news _ (F .fit))
+        ∙ crossed-row (F .reckoned) rest _
+        ∙ ap (λ l. encode l ++ rest)
+        (tabulate-agrees (records t) _ _ (after-is (F .reckoned) rest S)
+        ∙ ap (λ n. tabulate n (recordAfter plain (at (decode t)) n (p .x .0) (p .y .0) (rootsOf r))) (sym (length-decode t)))
 
-  pub image-filled : Filled t r p l₃
-  unfolding nodes swapped
-  image-filled = record { is = ap (take (length t)) last-row ∙ take-at (encode nodes) rest (length t) whole }
-    where
-      whole : length (encode nodes) ≡ length t
-      whole = length-encode nodes ∙ ap (λ n. recordSize * n) (length-tabulate (length (decode t)) _ ∙ length-decode t) ∙ omega (arith, F .sized .whole-records)
+    front : take (length t) l₃ ≡ encode nodes
+    unfolding nodes swapped
+    front = ap (take (length t)) last-row ∙ take-at (encode nodes) rest (length t) whole
+      where
+        whole : length (encode nodes) ≡ length t
+        whole = length-encode nodes ∙ ap (λ n. recordSize * n) (length-tabulate (length (decode t)) _ ∙ length-decode t) ∙ omega (arith, F .whole-records)
+
+  pub image-filled : Filled t p slots q l₃
+  unfolding nodes
+  image-filled = record { is = front }

@@ -23,27 +23,27 @@ use Rattle.swap_rules.specs.Opposites.{grand-opposite, crosses-opposite,
 use Rattle.swap_rules.specs.Fitting.{Fitting, in-table, own-seen, free-stays, y-stays, seen-high, grand-high}
 use Rattle.swap_rules.specs.Dying.{dies-y, dies-unrooted, dies-unnamed, y-lives, other-lives, free-lives, dies-opposite, dies-invert}
 use Rattle.swap_rules.specs.Making.{AskedFor, asked-wanted, says-stands, says-standing, says-new, new-alone, wanted-news, news-apart}
-use Rattle.swap_rules.specs.Making.{slots-enough, slot-in, slot-free, slot-index, filled-index, index-filled, index-slot, filled-slot, filled-new}
+use Rattle.swap_rules.specs.Making.{slots-enough, slot-in, slot-open, slot-index, filled-index, index-filled, index-slot, filled-slot, filled-new}
 use Rattle.swap_rules.specs.Making.{X-same, X-other, X-opposite}
 
 -- the four cases of a record: it crosses; it is filled; it dies; it stays as it is
 pub data Case (E : Edition) (T : ℕ → Node) (N x y : ℕ) (roots : List ℕ) (i : ℕ) : Type 0 where
   crosses-now : crossing E T x y i ≡ true → Case E T N x y roots i
-  filled-now : crossing E T x y i ≡ false → filled E T N x y i ≡ true → Case E T N x y roots i
-  dies-now : crossing E T x y i ≡ false → filled E T N x y i ≡ false → dies E T N x y roots (ref i) ≡ true → Case E T N x y roots i
-  stays-now : crossing E T x y i ≡ false → filled E T N x y i ≡ false → dies E T N x y roots (ref i) ≡ false → Case E T N x y roots i
+  filled-now : crossing E T x y i ≡ false → filled E T N x y roots i ≡ true → Case E T N x y roots i
+  dies-now : crossing E T x y i ≡ false → filled E T N x y roots i ≡ false → dies E T N x y roots (ref i) ≡ true → Case E T N x y roots i
+  stays-now : crossing E T x y i ≡ false → filled E T N x y roots i ≡ false → dies E T N x y roots (ref i) ≡ false → Case E T N x y roots i
 
 pub case : (E : Edition) (T : ℕ → Node) (N x y : ℕ) (roots : List ℕ) (i : ℕ) → Case E T N x y roots i
-case E T N x y roots i = go (by (crossing E T x y i)) (by (filled E T N x y i)) (by (dies E T N x y roots (ref i)))
+case E T N x y roots i = go (by (crossing E T x y i)) (by (filled E T N x y roots i)) (by (dies E T N x y roots (ref i)))
   where
-    go : (crossing E T x y i ≡ true) ⊎ (crossing E T x y i ≡ false) → (filled E T N x y i ≡ true) ⊎ (filled E T N x y i ≡ false)
+    go : (crossing E T x y i ≡ true) ⊎ (crossing E T x y i ≡ false) → (filled E T N x y roots i ≡ true) ⊎ (filled E T N x y roots i ≡ false)
         → (dies E T N x y roots (ref i) ≡ true) ⊎ (dies E T N x y roots (ref i) ≡ false) → Case E T N x y roots i
     go (inl t) _ _ = crosses-now t
     go (inr f) (inl t) _ = filled-now f t
     go (inr f) (inr g) (inl t) = dies-now f g t
     go (inr f) (inr g) (inr d) = stays-now f g d
 
-module _ {E : Edition} {T : ℕ → Node} {N x y : ℕ} (R : Fitting E T N x y) (roots : List ℕ) where
+module _ {E : Edition} {T : ℕ → Node} {N x y : ℕ} {roots : List ℕ} (R : Fitting E T N x y roots) where
   -- the parts of the swap of this table
   abbrev L : ℕ → Node
   L = seen E T
@@ -61,19 +61,19 @@ module _ {E : Edition} {T : ℕ → Node} {N x y : ℕ} (R : Fitting E T N x y) 
   News = news E T N x y
 
   abbrev Slots : List ℕ
-  Slots = slots T N
+  Slots = slots E T N x y roots
 
   abbrev Index : ℕ → ℕ
-  Index = slotIndex T N
+  Index = slotIndex E T N x y roots
 
   abbrev Filled : ℕ → Bool
-  Filled = filled E T N x y
+  Filled = filled E T N x y roots
 
   abbrev Dies : ℕ → Bool
   Dies = dies E T N x y roots
 
   abbrev Xt : ℕ → ℕ → ℕ
-  Xt = X E T N x y
+  Xt = X E T N x y Slots
 
   -- ---- a record afterwards, by its cases
 
@@ -95,15 +95,12 @@ module _ {E : Edition} {T : ℕ → Node} {N x y : ℕ} (R : Fitting E T N x y) 
 
   -- ---- a filled slot has no record to lose
 
-  slot-open : (i : ℕ) → Mem i Slots → Open L Dies (ref i)
-  slot-open i m = inl (own-seen R T i (slot-in R i m) ∙ slot-free R i m)
-
   open-stays : (r : ℕ) → Open L Dies r → crosses L x y r ≡ false
   open-stays r (inl e) = free-stays R r e
-  open-stays r (inr t) = y-stays R r (dies-y R roots r t)
+  open-stays r (inr t) = y-stays R r (dies-y R r t)
 
   pub filled-open : (i : ℕ) → Filled i ≡ true → Open L Dies (ref i)
-  filled-open i t = slot-open i (filled-slot R i t)
+  filled-open i t = slot-open R i (filled-slot R i t)
 
   -- a used record that does not die is not filled
   pub unfilled : (i : ℕ) {v l h : ℕ} → T i ≡ node v l h → Dies (ref i) ≡ false → Filled i ≡ false
@@ -116,30 +113,6 @@ module _ {E : Edition} {T : ℕ → Node} {N x y : ℕ} (R : Fitting E T N x y) 
       go : (Filled i ≡ true) ⊎ (Filled i ≡ false) → Filled i ≡ false
       go (inl t) = lost (filled-open i t)
       go (inr f) = f
-
-  -- what dies becomes free: it is none of the slots that are filled
-  pub dying-free : (r : ℕ) → Dies r ≡ true → L′ r ≡ free
-  unfolding look
-  dying-free r t = ap (turned E (E .inverted r)) (ap (look After) (b .is) ∙ freed) ∙ turned-free E (E .inverted r)
-    where
-      u : UsedOf y (L r)
-      u = dies-y R roots r t
-
-      b : Behind T (bare E r) (node y (invert E (E .inverted r) (u .low)) (invert E (E .inverted r) (u .high)))
-      b = behind-seen E T r (u .is)
-
-      i : ℕ
-      i = b .number
-
-      d : Dies (ref i) ≡ true
-      d = ap Dies (sym (b .is)) ∙ dies-invert R roots r r ∙ t
-
-      unfilled-slot : (Filled i ≡ true) ⊎ (Filled i ≡ false) → Filled i ≡ false
-      unfilled-slot (inl f) = free-node (slot-free R i (filled-slot R i f)) (b .holds)
-      unfilled-slot (inr f) = f
-
-      freed : After i ≡ free
-      freed = after-gone i (y-stays R (ref i) (dies-y R roots (ref i) d)) (unfilled-slot (by (Filled i))) d
 
   pub filled-used : (i : ℕ) → Crossing i ≡ false → Filled i ≡ true → UsedOf x (After i)
   filled-used i f t =
@@ -177,7 +150,7 @@ module _ {E : Edition} {T : ℕ → Node} {N x y : ℕ} (R : Fitting E T N x y) 
 
   -- a reference below 2 names no record, before and after
   kind-none : (q : ℕ) → L q ≡ free → L′ q ≡ free → KindOf q
-  kind-none q e e′ = kept (e′ ∙ sym e) (free-stays R q e) (free-lives R roots q e)
+  kind-none q e e′ = kept (e′ ∙ sym e) (free-stays R q e) (free-lives R q e)
 
   kind-upright : (q : ℕ) → E .inverted q ≡ false → KindOf q
   unfolding look
@@ -189,7 +162,7 @@ module _ {E : Edition} {T : ℕ → Node} {N x y : ℕ} (R : Fitting E T N x y) 
 
   -- w has a record afterwards, where X looks for it
   abbrev IsPlaced : Node → Type 0
-  IsPlaced w = (placed E T N x y w < N) × (After (placed E T N x y w) ≡ w)
+  IsPlaced w = (placed E T N x y Slots w < N) × (After (placed E T N x y Slots w) ≡ w)
 
   placed-standing : (a b : ℕ) → any (stands E T x y (node x a b)) N ≡ true → IsPlaced (node x a b)
   placed-standing a b t = rw e (l, after-kept j c (unfilled j (sym (z .0)) d) d ∙ sym (z .0))
@@ -204,12 +177,12 @@ module _ {E : Edition} {T : ℕ → Node} {N x y : ℕ} (R : Fitting E T N x y) 
       l = in-table R j (sym (z .0))
 
       d : Dies (ref j) ≡ false
-      d = other-lives R roots (ref j) (own-seen R T j l ∙ sym (z .0)) (R .differ)
+      d = other-lives R (ref j) (own-seen R T j l ∙ sym (z .0)) (R .differ)
 
       c : Crossing j ≡ false
       c = ⊎-elim (λ p. absurd (z .1 p)) (λ p. p) (by (Crossing j))
 
-      e : placed E T N x y (node x a b) ≡ j
+      e : placed E T N x y Slots (node x a b) ≡ j
       e = rw t
 
   placed-new : (a b : ℕ) → a ≢ b → any (stands E T x y (node x a b)) N ≡ false → Mem (node x a b) (wanted E T N x y) → IsPlaced (node x a b)
@@ -244,7 +217,7 @@ module _ {E : Edition} {T : ℕ → Node} {N x y : ℕ} (R : Fitting E T N x y) 
       index-is = slot-index R p h′
 
       goes-there : After i ≡ getD News (Index i) free
-      goes-there = after-filled i (open-stays (ref i) (slot-open i m)) (index-filled R i (rw index-is h))
+      goes-there = after-filled i (open-stays (ref i) (slot-open R i m)) (index-filled R i (rw index-is h))
 
   wanted-placed : (a b : ℕ) → a ≢ b → Mem (node x a b) (wanted E T N x y) → IsPlaced (node x a b)
   wanted-placed a b n s = ⊎-elim (placed-standing a b) (λ t. placed-new a b n t s) (by (any (stands E T x y (node x a b)) N))
@@ -260,7 +233,7 @@ module _ {E : Edition} {T : ℕ → Node} {N x y : ℕ} (R : Fitting E T N x y) 
   X-names : (a b : ℕ) → a ≢ b → Asked L x y a b → L′ (Xt a b) ≡ node x a b
   unfolding highOf
   X-names a b d s =
-      let i : ℕ = placed E T N x y (normal E (node x a b)) in
+      let i : ℕ = placed E T N x y Slots (normal E (node x a b)) in
       let z : IsPlaced (normal E (node x a b)) = asked-placed a b d s in
       ap L′ (X-other R a b d)
       ∙ seen-invert E After b (ref i)
@@ -275,7 +248,7 @@ module _ {E : Edition} {T : ℕ → Node} {N x y : ℕ} (R : Fitting E T N x y) 
   module _ (b : ℕ) (g : E .inverted b ≡ true) where
     open-opposite : (r : ℕ) → Open L Dies r → Open L Dies (E .opposite r)
     open-opposite r (inl e) = inl (seen-opposite E b g T r ∙ ap (turned E true) e)
-    open-opposite r (inr t) = inr (dies-opposite R roots b g r ∙ t)
+    open-opposite r (inr t) = inr (dies-opposite R b g r ∙ t)
 
     side-opposite : (d : Bool) (l h : ℕ) → E .opposite (Side L y Xt d l h) ≡ Side L y Xt d (E .opposite l) (E .opposite h)
     side-opposite d l h = sym (X-opposite R b g _ _) ∙ ap₂ Xt (sym (grand-opposite E b g T y d l)) (sym (grand-opposite E b g T y d h))
@@ -303,7 +276,7 @@ module _ {E : Edition} {T : ℕ → Node} {N x y : ℕ} (R : Fitting E T N x y) 
             (crosses-opposite E b g T x y s ∙ f)
 
         go : KindOf r → KindOf (E .opposite r)
-        go (kept e f d) = kept (now e ∙ sym old) (cross ∙ f) (dies-opposite R roots b g r ∙ d)
+        go (kept e f d) = kept (now e ∙ sym old) (cross ∙ f) (dies-opposite R b g r ∙ d)
         go (crossed l h e t e′) =
             crossed (E .opposite l) (E .opposite h) (old ∙ ap (turned E true) e) (cross ∙ t)
             (now e′ ∙ ap₂ (λ (p q : ℕ). node y p q) (side-opposite false l h) (side-opposite true l h))
@@ -311,7 +284,7 @@ module _ {E : Edition} {T : ℕ → Node} {N x y : ℕ} (R : Fitting E T N x y) 
             fresh (E .opposite p) (E .opposite q) (λ h. c (terminal-opposite r h)) (open-opposite r o) (now e) (asked-opposite E b g T s)
             (λ z. d (opposite-one E b g p q z))
             (alone p q i)
-        go (gone t e) = gone (dies-opposite R roots b g r ∙ t) (now e)
+        go (gone t e) = gone (dies-opposite R b g r ∙ t) (now e)
 
   kind : (r : ℕ) → KindOf r
   kind r = go (E .inverted r) refl (bare-upright E r) (invert-bare E r)
@@ -347,7 +320,7 @@ module _ {E : Edition} {T : ℕ → Node} {N x y : ℕ} (R : Fitting E T N x y) 
       let e : T i ≡ free = R .past i l in
       let o : L (ref i) ≡ free = seen-upright E T (ref i) n ∙ e in
       let g : Filled i ≡ false = ⊎-elim (λ b. absurd (omega (arith, slot-in R i (filled-slot R i b)))) (λ b. b) (by (Filled i)) in
-      after-kept i (free-stays R (ref i) o) g (free-lives R roots (ref i) o) ∙ e
+      after-kept i (free-stays R (ref i) o) g (free-lives R (ref i) o) ∙ e
 
   after-in-table : (i : ℕ) {v l h : ℕ} → E .inverted (ref i) ≡ false → After i ≡ node v l h → i < N
   after-in-table i n e = either-side i N (λ l. l) (λ l. free-node (after-past i l n) e)
@@ -412,7 +385,7 @@ module _ {E : Edition} {T : ℕ → Node} {N x y : ℕ} (R : Fitting E T N x y) 
     where
       made : a ≢ b → E .inverted (Xt a b) ≡ false
       made d =
-          let p : ℕ = placed E T N x y (normal E (node x a b)) in
+          let p : ℕ = placed E T N x y Slots (normal E (node x a b)) in
           let z : Xt a b ≡ ref p = X-other R a b d ∙ ap (λ (u : Bool). invert E u (ref p)) n in
           ap (E .inverted) z ∙ R .own p (asked-placed a b d s .0)
 
@@ -437,8 +410,8 @@ module _ {E : Edition} {T : ℕ → Node} {N x y : ℕ} (R : Fitting E T N x y) 
     kind = kind;
     serves = X-serves;
     fresh-single = fresh-single;
-    dies-y = dies-y R roots;
-    dies-root = dies-unrooted R roots;
-    dies-named = λ r m t f. dies-unnamed R roots r t (m, f);
-    lives = y-lives R roots;
+    dies-y = dies-y R;
+    dies-root = dies-unrooted R;
+    dies-named = λ r m t f. dies-unnamed R r t (m, f);
+    lives = y-lives R;
   }

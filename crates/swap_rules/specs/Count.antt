@@ -25,11 +25,11 @@ unfolding isFreeNode
 free-bit e = rw e
 
 -- as many records are filled as are needed
-filled-count : {E : Edition} {T : ℕ → Node} {N x y : ℕ} → Fitting E T N x y → count (filled E T N x y) N ≡ needed E T N x y
+filled-count : {E : Edition} {T : ℕ → Node} {N x y : ℕ} {roots : List ℕ} → Fitting E T N x y roots → count (filled E T N x y roots) N ≡ needed E T N x y
 unfolding filled slotIndex
-filled-count {E} {T} {N} {x} {y} R = count-places (slots T N) (slots-apart R) N (slot-in R) (needed E T N x y) (R .fit)
+filled-count {E} {T} {N} {x} {y} {roots} R = count-places (slots E T N x y roots) (slots-apart R) N (slot-in R) (needed E T N x y) (R .fit)
 
-module _ {E : Edition} {T : ℕ → Node} {N x y : ℕ} (R : Fitting E T N x y) (roots : List ℕ) where
+module _ {E : Edition} {T : ℕ → Node} {N x y : ℕ} {roots : List ℕ} (R : Fitting E T N x y roots) where
   abbrev After : ℕ → Node
   After = recordAfter E T N x y roots
 
@@ -38,7 +38,7 @@ module _ {E : Edition} {T : ℕ → Node} {N x y : ℕ} (R : Fitting E T N x y) 
 
   -- of one record: used afterwards and dying are used before and filled
   abbrev Balance : ℕ → Type 0
-  Balance i = bit (isUsedNode (After i)) + bit (Dies (ref i)) ≡ bit (isUsedNode (T i)) + bit (filled E T N x y i)
+  Balance i = bit (isUsedNode (After i)) + bit (Dies (ref i)) ≡ bit (isUsedNode (T i)) + bit (filled E T N x y roots i)
 
   balance : (i : ℕ) → i < N → Balance i
   balance i l = go (case E T N x y roots i)
@@ -46,21 +46,21 @@ module _ {E : Edition} {T : ℕ → Node} {N x y : ℕ} (R : Fitting E T N x y) 
       own : {m : Node} → seen E T (ref i) ≡ m → T i ≡ m
       own e = sym (own-seen R T i l) ∙ e
 
-      slot : crossing E T x y i ≡ false → filled E T N x y i ≡ true → Open (seen E T) Dies (ref i) → Balance i
-      slot f t (inl e) = rw (used-bit (filled-used R roots i f t .is), free-lives R roots (ref i) e, free-bit (own e), t)
-      slot f t (inr d) = rw (used-bit (filled-used R roots i f t .is), d, used-bit (own (dies-y R roots (ref i) d .is)), t)
+      slot : crossing E T x y i ≡ false → filled E T N x y roots i ≡ true → Open (seen E T) Dies (ref i) → Balance i
+      slot f t (inl e) = rw (used-bit (filled-used R i f t .is), free-lives R (ref i) e, free-bit (own e), t)
+      slot f t (inr d) = rw (used-bit (filled-used R i f t .is), d, used-bit (own (dies-y R (ref i) d .is)), t)
 
       go : Case E T N x y roots i → Balance i
       go (crosses-now t) =
           let u : UsedOf x (seen E T (ref i)) = crosses-x (seen E T) x y (ref i) t in
-          let d : Dies (ref i) ≡ false = other-lives R roots (ref i) (u .is) (R .differ) in
-          rw (used-bit (after-crossed R roots i (u .low) (u .high) (u .is) t), d, used-bit (own (u .is)), unfilled R roots i (own (u .is)) d)
-      go (filled-now f t) = slot f t (filled-open R roots i t)
-      go (dies-now f g t) = rw (free-bit (after-gone R roots i f g t), t, used-bit (own (dies-y R roots (ref i) t .is)), g)
-      go (stays-now f g d) = rw (after-kept R roots i f g d, d, g)
+          let d : Dies (ref i) ≡ false = other-lives R (ref i) (u .is) (R .differ) in
+          rw (used-bit (after-crossed R i (u .low) (u .high) (u .is) t), d, used-bit (own (u .is)), unfilled R i (own (u .is)) d)
+      go (filled-now f t) = slot f t (filled-open R i t)
+      go (dies-now f g t) = rw (free-bit (after-gone R i f g t), t, used-bit (own (dies-y R (ref i) t .is)), g)
+      go (stays-now f g d) = rw (after-kept R i f g d, d, g)
 
   pub used-after : usedCount After N + dyingCount E T N x y roots ≡ usedCount T N + needed E T N x y
   unfolding usedCount dyingCount
   used-after =
-      count-both (λ i. isUsedNode (After i)) (λ i. Dies (ref i)) (λ i. isUsedNode (T i)) (filled E T N x y) N balance
+      count-both (λ i. isUsedNode (After i)) (λ i. Dies (ref i)) (λ i. isUsedNode (T i)) (filled E T N x y roots) N balance
       ∙ ap (λ m. count (λ i. isUsedNode (T i)) N + m) (filled-count R)

@@ -23,7 +23,7 @@ use Rattle.swap_rules.specs.Fitting.{Fitting, in-table, own-seen, behind
 abbrev StillNamed : (ℕ → Node) → ℕ → ℕ → ℕ → Type 0
 StillNamed L x y r = (m : Named L r) × (crosses L x y (m .parent) ≡ false)
 
-module _ {E : Edition} {T : ℕ → Node} {N x y : ℕ} (R : Fitting E T N x y) where
+module _ {E : Edition} {T : ℕ → Node} {N x y : ℕ} {roots : List ℕ} (R : Fitting E T N x y roots) where
   abbrev L : ℕ → Node
   L = seen E T
 
@@ -107,49 +107,48 @@ module _ {E : Edition} {T : ℕ → Node} {N x y : ℕ} (R : Fitting E T N x y) 
       (λ (c j : ℕ). isUsedNode (T j) && not (crossing E T x y j) && (eqb (bare E (lowOf (T j))) c || eqb (bare E (highOf (T j))) c))
       e
 
-  module _ (roots : List ℕ) where
-    abbrev Dies : ℕ → Bool
-    Dies = dies E T N x y roots
+  abbrev Dies : ℕ → Bool
+  Dies = dies E T N x y roots
 
-    says-rooted : (r : ℕ) → Says (any (λ k. oneRecord E (getD roots k 0) r) (length roots)) (Rooted E roots r)
-    says-rooted r =
-        says-any _ (length roots) (λ k. bare E (getD roots k 0) ≡ bare E r) (λ k. says-eqb (bare E (getD roots k 0)) (bare E r))
+  says-rooted : (r : ℕ) → Says (any (λ k. oneRecord E (getD roots k 0) r) (length roots)) (Rooted E roots r)
+  says-rooted r =
+      says-any _ (length roots) (λ k. bare E (getD roots k 0) ≡ bare E r) (λ k. says-eqb (bare E (getD roots k 0)) (bare E r))
 
-    says-dies : (r : ℕ) → Says (Dies r) ((UsedOf y (L r) × (Rooted E roots r → ⊥)) × (StillNamed L x y r → ⊥))
-    unfolding dies
-    says-dies r =
-        let u : Says (isOf y (L r)) (UsedOf y (L r)) = record { yes = of-true y (L r); no = λ u. of-node y (u .is) } in
-        says-and _ _ _ _ (says-and _ _ _ _ u (says-not _ _ (says-rooted r))) (says-not _ _ (says-still-named r))
+  says-dies : (r : ℕ) → Says (Dies r) ((UsedOf y (L r) × (Rooted E roots r → ⊥)) × (StillNamed L x y r → ⊥))
+  unfolding dies
+  says-dies r =
+      let u : Says (isOf y (L r)) (UsedOf y (L r)) = record { yes = of-true y (L r); no = λ u. of-node y (u .is) } in
+      says-and _ _ _ _ (says-and _ _ _ _ u (says-not _ _ (says-rooted r))) (says-not _ _ (says-still-named r))
 
-    pub dies-y : (r : ℕ) → Dies r ≡ true → UsedOf y (L r)
-    dies-y r t = says-dies r .yes t .0 .0
+  pub dies-y : (r : ℕ) → Dies r ≡ true → UsedOf y (L r)
+  dies-y r t = says-dies r .yes t .0 .0
 
-    pub dies-unrooted : (r : ℕ) → Dies r ≡ true → Rooted E roots r → ⊥
-    dies-unrooted r t = says-dies r .yes t .0 .1
+  pub dies-unrooted : (r : ℕ) → Dies r ≡ true → Rooted E roots r → ⊥
+  dies-unrooted r t = says-dies r .yes t .0 .1
 
-    pub dies-unnamed : (r : ℕ) → Dies r ≡ true → StillNamed L x y r → ⊥
-    dies-unnamed r t = says-dies r .yes t .1
+  pub dies-unnamed : (r : ℕ) → Dies r ≡ true → StillNamed L x y r → ⊥
+  dies-unnamed r t = says-dies r .yes t .1
 
-    -- what does not die: a y record that a root or a record that stays names, and all that is no y record
-    pub y-lives : (r : ℕ) → Dies r ≡ false → UsedOf y (L r) → Rooted E roots r ⊎ StillNamed L x y r
-    y-lives r f u = ⊎-elim inl (λ p. ⊎-elim inr (λ q. absurd (refutes (says-dies r) f ((u, p), q))) (decided (says-still-named r))) (decided (says-rooted r))
+  -- what does not die: a y record that a root or a record that stays names, and all that is no y record
+  pub y-lives : (r : ℕ) → Dies r ≡ false → UsedOf y (L r) → Rooted E roots r ⊎ StillNamed L x y r
+  y-lives r f u = ⊎-elim inl (λ p. ⊎-elim inr (λ q. absurd (refutes (says-dies r) f ((u, p), q))) (decided (says-still-named r))) (decided (says-rooted r))
 
-    pub other-lives : (r : ℕ) {v l h : ℕ} → L r ≡ node v l h → v ≢ y → Dies r ≡ false
-    other-lives r e d = denies (says-dies r) (λ p. clash (of-node y (p .0 .0 .is)) (of-other y e d))
+  pub other-lives : (r : ℕ) {v l h : ℕ} → L r ≡ node v l h → v ≢ y → Dies r ≡ false
+  other-lives r e d = denies (says-dies r) (λ p. clash (of-node y (p .0 .0 .is)) (of-other y e d))
 
-    pub free-lives : (r : ℕ) → L r ≡ free → Dies r ≡ false
-    free-lives r e = denies (says-dies r) (λ p. free-node e (p .0 .0 .is))
+  pub free-lives : (r : ℕ) → L r ≡ free → Dies r ≡ false
+  free-lives r e = denies (says-dies r) (λ p. free-node e (p .0 .0 .is))
 
-    -- a record dies by either of its references
-    pub dies-opposite : (b : ℕ) → E .inverted b ≡ true → (r : ℕ) → Dies (E .opposite r) ≡ Dies r
-    unfolding dies
-    dies-opposite b g r =
-        let e : bare E (E .opposite r) ≡ bare E r = bare-opposite E b g r in
-        rw (seen-opposite E b g T r, of-turned E true y (seen E T r), e, still-names-one (E .opposite r) r e)
+  -- a record dies by either of its references
+  pub dies-opposite : (b : ℕ) → E .inverted b ≡ true → (r : ℕ) → Dies (E .opposite r) ≡ Dies r
+  unfolding dies
+  dies-opposite b g r =
+      let e : bare E (E .opposite r) ≡ bare E r = bare-opposite E b g r in
+      rw (seen-opposite E b g T r, of-turned E true y (seen E T r), e, still-names-one (E .opposite r) r e)
 
-    pub dies-invert : (b r : ℕ) → Dies (invert E (E .inverted b) r) ≡ Dies r
-    dies-invert b r = go (E .inverted b) refl
-      where
-        go : (s : Bool) → E .inverted b ≡ s → Dies (invert E s r) ≡ Dies r
-        go true e = dies-opposite b e r
-        go false e = refl
+  pub dies-invert : (b r : ℕ) → Dies (invert E (E .inverted b) r) ≡ Dies r
+  dies-invert b r = go (E .inverted b) refl
+    where
+      go : (s : Bool) → E .inverted b ≡ s → Dies (invert E s r) ≡ Dies r
+      go true e = dies-opposite b e r
+      go false e = refl

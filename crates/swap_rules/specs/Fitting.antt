@@ -1,6 +1,7 @@
 -- A table in which a swap fits: its records as they are seen through references, and which of them stay as they are.
 use Prim.Native.Nat.{ℕ, _≤_, _<_}
 use mathlib.Core.Bool.{true, false}
+use mathlib.Core.List.{List}
 use mathlib.Core.Logic.{_≢_, _⊎_, inl, inr}
 use mathlib.Core.Path.{_≡_, ap, sym, _∙_}
 use lib.ListN.{length}
@@ -15,15 +16,15 @@ use Rattle.swap_rules.specs.Step.{grand-of, grand-self}
 use Rattle.swap_rules.specs.Opposites.{crosses-invert}
 
 -- a table of N records in which the swap of x and y fits
-pub record Fitting (E : Edition) (T : ℕ → Node) (N x y : ℕ) : Type 0 where
+pub record Fitting (E : Edition) (T : ℕ → Node) (N x y : ℕ) (roots : List ℕ) : Type 0 where
   pub differ : x ≢ y
   pub past : (i : ℕ) → N ≤ i → T i ≡ free
   -- a record's own reference is not inverted, and no high reference is
   pub own : (i : ℕ) → i < N → E .inverted (ref i) ≡ false
   pub upright : Upright E T
-  pub fit : needed E T N x y ≤ length (slots T N)
+  pub fit : needed E T N x y ≤ length (slots E T N x y roots)
 
-module _ {E : Edition} {T : ℕ → Node} {N x y : ℕ} (R : Fitting E T N x y) where
+module _ {E : Edition} {T : ℕ → Node} {N x y : ℕ} {roots : List ℕ} (R : Fitting E T N x y roots) where
   abbrev L : ℕ → Node
   L = seen E T
 

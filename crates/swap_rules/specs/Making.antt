@@ -2,7 +2,7 @@
 use Prim.Native.Nat.{ℕ, _≤_, _<_}
 use native.Mathlib.Omega.{arith}
 use mathlib.Core.Bool.{Bool, true, false}
-use mathlib.Core.List.{List, [], _∷_, List·Memᴰ·head, List·Memᴰ·tail, List·Memᴰ·not-nil, List·Memᴰ·cases-cons, Memᴰ·cast}
+use mathlib.Core.List.{List, [], _∷_, List·Memᴰ·head, List·Memᴰ·tail, List·Memᴰ·not-nil, List·Memᴰ·cases-cons, List·Memᴰ·append-cases, Memᴰ·cast}
 use mathlib.Core.Logic.{_≢_, _⊎_, inl, inr, ⊎-elim}
 use mathlib.Core.Path.{_≡_, refl, ap, ap₂, sym, _∙_, subst}
 use lib.Dec.{eqb}
@@ -10,7 +10,7 @@ use lib.ListN.{length, getD}
 use borrow.Author.Tests.{eqb-true, eq-eqb, ne-eqb, ltb-true, lt-ltb}
 use Rattle.lists.specs.First.{any, first-holds}
 use Rattle.lists.specs.Says.{Says, Some, says-itself, says-any, says-eqb, says-not, says-and, decided}
-use Rattle.lists.specs.Mem.{Mem, Apart, at-mem}
+use Rattle.lists.specs.Mem.{Mem, Apart, at-mem, append-apart}
 use Rattle.lists.specs.Keep.{keep, keep-mem, mem-keep}
 use Rattle.lists.specs.Which.{which, which-mem, mem-which, which-apart}
 use Rattle.lists.specs.Each.{each-mem, mem-each}
@@ -21,10 +21,11 @@ use Rattle.diagrams.specs.Node.{Node, free, node, ref}
 use Rattle.diagrams.specs.Edition.{Edition, invert, bare, turned, seen, opposite-one, invert-not}
 use Rattle.swap_rules.specs.Record.{lowOf, highOf, isFreeNode, same, UsedOf, free-true, says-same, Behind}
 use Rattle.swap_rules.specs.Swap.{normal, grandchild, f00, f01, f10, f11, crosses, asked, bothAsked, crossing, stands, isNew, wanted, news, slots}
-use Rattle.swap_rules.specs.Swap.{placed, X, needed, slotIndex, filled}
-use Rattle.swap_rules.specs.Step.{Asked, crosses-x}
+use Rattle.swap_rules.specs.Swap.{placed, X, needed, dies, slotIndex, filled}
+use Rattle.swap_rules.specs.Step.{Asked, Open, crosses-x}
 use Rattle.swap_rules.specs.Opposites.{grand-opposite, asked-opposite, normal-opposite, behind-seen}
 use Rattle.swap_rules.specs.Fitting.{Fitting, in-table, own-seen, behind-crosses}
+use Rattle.swap_rules.specs.Dying.{free-lives}
 
 -- ---- what is asked for
 
@@ -40,7 +41,7 @@ pub record AskedFor (E : Edition) (L : ℕ → Node) (x y : ℕ) (w : Node) : Ty
 abbrev Standing : (ℕ → Node) → (ℕ → Node) → ℕ → ℕ → ℕ → Node → Type 0
 Standing T L N x y w = Some (λ j. (w ≡ T j) × (crosses L x y (ref j) ≡ true → ⊥)) N
 
-module _ {E : Edition} {T : ℕ → Node} {N x y : ℕ} (R : Fitting E T N x y) where
+module _ {E : Edition} {T : ℕ → Node} {N x y : ℕ} {roots : List ℕ} (R : Fitting E T N x y roots) where
   abbrev L : ℕ → Node
   L = seen E T
 
@@ -54,13 +55,13 @@ module _ {E : Edition} {T : ℕ → Node} {N x y : ℕ} (R : Fitting E T N x y) 
   News = news E T N x y
 
   abbrev Slots : List ℕ
-  Slots = slots T N
+  Slots = slots E T N x y roots
 
   abbrev Index : ℕ → ℕ
-  Index = slotIndex T N
+  Index = slotIndex E T N x y roots
 
   abbrev Filled : ℕ → Bool
-  Filled = filled E T N x y
+  Filled = filled E T N x y roots
 
   -- what x (l, h) asks for on one side, as it is looked for or made
   abbrev sought : Bool → ℕ → ℕ → Node
@@ -186,17 +187,36 @@ module _ {E : Edition} {T : ℕ → Node} {N x y : ℕ} (R : Fitting E T N x y) 
 
   -- ---- slots: all that the rest asks of them
 
+  abbrev Free : ℕ → Bool
+  Free i = isFreeNode (T i)
+
+  abbrev Dies : ℕ → Bool
+  Dies = dies E T N x y roots
+
+  free-seen : (i : ℕ) → i < N → Free i ≡ true → L (ref i) ≡ free
+  free-seen i b t = own-seen R T i b ∙ free-true (T i) t
+
+  -- no record is free and dies
+  free-or-dies : (i : ℕ) → Mem i (which Free N) → Mem i (which (λ i. Dies (ref i)) N) → ⊥
+  free-or-dies i m k =
+      let z : (i < N) × (Free i ≡ true) = which-mem Free N i m in
+      clash (which-mem (λ i. Dies (ref i)) N i k .1) (free-lives R (ref i) (free-seen i (z .0) (z .1)))
+
   pub slots-apart : Apart Slots
   unfolding slots
-  slots-apart = which-apart (λ i. isFreeNode (T i)) N
+  slots-apart = append-apart _ _ (which-apart Free N) (which-apart (λ i. Dies (ref i)) N) free-or-dies
 
   pub slot-in : (i : ℕ) → Mem i Slots → i < N
   unfolding slots
-  slot-in i m = which-mem (λ i. isFreeNode (T i)) N i m .0
+  slot-in i m = ⊎-elim (λ k. which-mem Free N i k .0) (λ k. which-mem (λ i. Dies (ref i)) N i k .0) (List·Memᴰ·append-cases (which Free N) m)
 
-  pub slot-free : (i : ℕ) → Mem i Slots → T i ≡ free
+  -- a slot is free before the swap, or dies in it
+  pub slot-open : (i : ℕ) → Mem i Slots → Open L Dies (ref i)
   unfolding slots
-  slot-free i m = free-true (T i) (which-mem (λ i. isFreeNode (T i)) N i m .1)
+  slot-open i m = ⊎-elim free-slot (λ k. inr (which-mem (λ i. Dies (ref i)) N i k .1)) (List·Memᴰ·append-cases (which Free N) m)
+    where
+      free-slot : Mem i (which Free N) → Open L Dies (ref i)
+      free-slot k = let z : (i < N) × (Free i ≡ true) = which-mem Free N i k in inl (free-seen i (z .0) (z .1))
 
   -- ---- the filled slots
 
@@ -230,13 +250,13 @@ module _ {E : Edition} {T : ℕ → Node} {N x y : ℕ} (R : Fitting E T N x y) 
   -- ---- X
 
   abbrev Xt : ℕ → ℕ → ℕ
-  Xt = X E T N x y
+  Xt = X E T N x y Slots
 
   pub X-same : (a b : ℕ) → a ≡ b → Xt a b ≡ a
   unfolding X
   X-same a b e = rw (eq-eqb a b e)
 
-  pub X-other : (a b : ℕ) → a ≢ b → Xt a b ≡ invert E (E .inverted b) (ref (placed E T N x y (normal E (node x a b))))
+  pub X-other : (a b : ℕ) → a ≢ b → Xt a b ≡ invert E (E .inverted b) (ref (placed E T N x y Slots (normal E (node x a b))))
   unfolding X
   X-other a b d = rw (ne-eqb a b d)
 
@@ -249,6 +269,6 @@ module _ {E : Edition} {T : ℕ → Node} {N x y : ℕ} (R : Fitting E T N x y) 
       differ : p ≢ q → Xt (E .opposite p) (E .opposite q) ≡ E .opposite (Xt p q)
       differ d =
           X-other _ _ (λ e. d (opposite-one E b g p q e))
-          ∙ ap₂ (λ (s : Bool) (w : Node). invert E s (ref (placed E T N x y w))) (E .other b q g) (normal-opposite E b g x p q)
+          ∙ ap₂ (λ (s : Bool) (w : Node). invert E s (ref (placed E T N x y Slots w))) (E .other b q g) (normal-opposite E b g x p q)
           ∙ invert-not E b g (E .inverted q) _
           ∙ ap (E .opposite) (sym (X-other p q d))

@@ -8,15 +8,14 @@ use mathlib.Core.Path.{_≡_, refl, ap, sym, _∙_, fun-ext}
 use lib.ListN.{length, getD, List·getD-eq-default}
 use borrow.Author.Tests.{leb-true}
 use Rattle.lists.specs.Tabulate.{length-tabulate, getD-tabulate}
-use Rattle.lists.specs.Which.{which-length}
 use Rattle.lists.specs.Says.{either-side}
 use Rattle.diagrams.specs.Node.{Node, free, at, ref, look}
 use Rattle.diagrams.specs.Levels.{free-node}
 use Rattle.diagrams.specs.Edition.{Edition, plain, bare, turned, seen, Upright, bare-upright}
 use Rattle.orders.specs.Permutation.{Permutation, levelOf, level-of-at, at-level-of, same-place}
 use Rattle.orders.specs.Exchange.{exchange, exchange-upper, exchange-lower, exchange-other}
-use Rattle.swap_rules.specs.Record.{isFreeNode}
-use Rattle.swap_rules.specs.Swap.{xAt, yAt, slots, freeCount, fits, recordAfter, swapped}
+use Rattle.swap_rules.specs.Swap.{xAt, yAt, fits, recordAfter, swapped}
+use Rattle.swap_rules.specs.Room.{slots-count, fits-slots}
 use Rattle.swap_rules.specs.Step.{Levels}
 use Rattle.swap_rules.specs.Fitting.{Fitting}
 use Rattle.swap_rules.specs.Computed.{after-past, after-upright}
@@ -53,21 +52,21 @@ pub plain-written : (t : List Node) → Written plain t
 plain-written t = record { own = λ i l. refl; upright = λ i v l h e. refl }
 
 -- the swap of the levels k and k + 1 of the order fits in the table t
-pub record SwapFits (E : Edition) (t : List Node) (ord : List ℕ) (k : ℕ) : Type 0 where
+pub record SwapFits (E : Edition) (t : List Node) (roots ord : List ℕ) (k : ℕ) : Type 0 where
   pub written : Written E t
   pub order : Permutation ord
   pub level : k + 1 < length ord
-  pub fit : fits E (at t) (length t) (xAt ord k) (yAt ord k) ≡ true
+  pub fit : fits E (at t) (length t) (xAt ord k) (yAt ord k) roots ≡ true
 
--- there are slots enough, as needed is not above free
-pub fitting : {E : Edition} {t : List Node} {ord : List ℕ} {k : ℕ} → SwapFits E t ord k → Fitting E (at t) (length t) (xAt ord k) (yAt ord k)
-unfolding fits freeCount slots
-fitting {E} {t} {ord} {k} S = record {
+-- there are slots enough, as needed is not above free and dying
+pub fitting : {E : Edition} {t : List Node} {roots ord : List ℕ} {k : ℕ} → SwapFits E t roots ord k
+    → Fitting E (at t) (length t) (xAt ord k) (yAt ord k) roots
+fitting {E} {t} {roots} {ord} {k} S = record {
   differ = pair-differs ord k (S .order) (S .level);
   past = λ i l. List·getD-eq-default t free l;
   own = S .written .own;
   upright = S .written .upright;
-  fit = rw (which-length (λ i. isFreeNode (at t i)) (length t)) (leb-true _ _ (S .fit));
+  fit = rw (slots-count E (at t) (length t) (xAt ord k) (yAt ord k) roots) (leb-true _ _ (sym (fits-slots E (at t) (length t) _ _ roots) ∙ S .fit));
 }
 
 module _ (E : Edition) (t : List Node) (x y : ℕ) (roots : List ℕ) where
@@ -85,9 +84,9 @@ module _ (E : Edition) (t : List Node) (x y : ℕ) (roots : List ℕ) where
   swapped-past : (i : ℕ) → length t ≤ i → at (swapped E t x y roots) i ≡ free
   swapped-past i l = let h : length (swapped E t x y roots) ≤ i = rw length-swapped l in List·getD-eq-default (swapped E t x y roots) free h
 
-  module _ (R : Fitting E (at t) (length t) x y) where
+  module _ (R : Fitting E (at t) (length t) x y roots) where
     swapped-at : (i : ℕ) → E .inverted (ref i) ≡ false → at (swapped E t x y roots) i ≡ After i
-    swapped-at i n = either-side i (length t) (swapped-in i) (λ l. swapped-past i l ∙ sym (after-past R roots i l n))
+    swapped-at i n = either-side i (length t) (swapped-in i) (λ l. swapped-past i l ∙ sym (after-past R i l n))
 
     swapped-look : (q : ℕ) → E .inverted q ≡ false → look (at (swapped E t x y roots)) q ≡ look After q
     unfolding look
@@ -103,6 +102,6 @@ module _ (E : Edition) (t : List Node) (x y : ℕ) (roots : List ℕ) where
       own = λ i l. R .own i (rw length-swapped at l);
       upright = λ i v l h e.
           either-side i (length t)
-          (λ b. after-upright R roots i v l h b (sym (swapped-in i b) ∙ e))
+          (λ b. after-upright R i v l h b (sym (swapped-in i b) ∙ e))
           (λ b. free-node (swapped-past i b) e);
     }

@@ -1,9 +1,9 @@
 -- One swap of the levels k and k + 1: what becomes of each record, read wholly from the table before. docs/RULES.md, 4; sections are cited below.
 -- E is the edition of the table. In the plain edition its words say nothing new: `seen E T r` is the record that r names, `look T r`;
 -- `oneRecord E q r` asks whether q is r; `normal E w` is w; and `invert E (E .inverted b) r` is r (`plain-words`).
-use Prim.Native.Nat.{ℕ, _+_}
+use Prim.Native.Nat.{ℕ, _+_, _-_}
 use mathlib.Core.Bool.{Bool, true, false, cond, not, _&&_, _||_}
-use mathlib.Core.List.{List, [], _∷_}
+use mathlib.Core.List.{List, [], _∷_, _++_}
 use mathlib.Core.Path.{_≡_, refl}
 use lib.Dec.{eqb, ltb, leb}
 use lib.ListN.{length, getD}
@@ -86,15 +86,6 @@ module _ (E : Edition) (T : ℕ → Node) (x y : ℕ) where
   stillNames r j = isUsedNode (T j) && not (crossing j) && (oneRecord E (lowOf (T j)) r || oneRecord E (highOf (T j)) r)
 
 module _ (T : ℕ → Node) (N : ℕ) where
-  -- 4.3, case 4: where new records go, one after the other: the records that were free before the swap, lowest number first.
-  -- What dies in this swap is none of them; the next swap finds it free
-  unfoldable pub slots : List ℕ
-  slots = which (λ i. isFreeNode (T i)) N
-
-  -- which of the slots record i is; the number of slots for one that is none
-  unfoldable pub slotIndex : ℕ → ℕ
-  slotIndex i = first (λ j. eqb (getD slots j 0) i) (length slots)
-
   -- free: how many records are free before the swap
   unfoldable pub freeCount : ℕ
   freeCount = count (λ i. isFreeNode (T i)) N
@@ -116,38 +107,32 @@ module _ (E : Edition) (T : ℕ → Node) (N x y : ℕ) where
   unfoldable pub news : List Node
   news = once same (keep isNew wanted)
 
-  -- the record number that the new record w gets
-  unfoldable pub slotOf : Node → ℕ
-  slotOf w = getD (slots T N) (first (λ j. same w (getD news j free)) (length news)) 0
-
-  -- the record number of w: of a record that is w and does not cross, where there is one; otherwise of the new record w
-  abbrev pub placed : Node → ℕ
-  placed w = cond (any (stands E T x y w) N) (first (stands E T x y w) N) (slotOf w)
-
-  -- 4.3: X(a, b): a itself where b is the same; otherwise the reference of the x record with low a and high b.
-  -- Where b is inverted, that record has the opposites of both, and so X(a, b) is the opposite of its reference
-  unfoldable pub X : ℕ → ℕ → ℕ
-  X a b = cond (eqb a b) a (invert E (E .inverted b) (ref (placed (normal E (node x a b)))))
-
-  -- 4.3: what a crossing record becomes: the y record with low X(f00, f10) and high X(f01, f11)
-  unfoldable pub becomes : ℕ → Node
-  becomes r = node y (X (f00 (seen E T) y r) (f10 (seen E T) y r)) (X (f01 (seen E T) y r) (f11 (seen E T) y r))
-
   -- 4.4: needed: how many new records the swap makes
   unfoldable pub needed : ℕ
   needed = length news
 
-  -- 4.4: there is room exactly where needed is not above free
-  unfoldable pub fits : Bool
-  fits = leb needed (freeCount T N)
+  -- the new records go into these records, one into each, in this order
+  module _ (into : List ℕ) where
+    -- the record number that the new record w gets
+    unfoldable pub slotOf : Node → ℕ
+    slotOf w = getD into (first (λ j. same w (getD news j free)) (length news)) 0
 
-  -- a new record goes to record i
-  unfoldable pub filled : ℕ → Bool
-  filled i = ltb (slotIndex T N i) needed
+    -- the record number of w: of a record that is w and does not cross, where there is one; otherwise of the new record w
+    abbrev pub placed : Node → ℕ
+    placed w = cond (any (stands E T x y w) N) (first (stands E T x y w) N) (slotOf w)
+
+    -- 4.3: X(a, b): a itself where b is the same; otherwise the reference of the x record with low a and high b.
+    -- Where b is inverted, that record has the opposites of both, and so X(a, b) is the opposite of its reference
+    unfoldable pub X : ℕ → ℕ → ℕ
+    X a b = cond (eqb a b) a (invert E (E .inverted b) (ref (placed (normal E (node x a b)))))
+
+    -- 4.3: what a crossing record becomes: the y record with low X(f00, f10) and high X(f01, f11)
+    unfoldable pub becomes : ℕ → Node
+    becomes r = node y (X (f00 (seen E T) y r) (f10 (seen E T) y r)) (X (f01 (seen E T) y r) (f11 (seen E T) y r))
 
   module _ (roots : List ℕ) where
     -- 4.5: the y record of r dies: no root names it, and no record that keeps its references. Crossed and new records name no y record
-    -- from before, so that afterwards nothing at all names it (`dies-exactly` of Theorem)
+    -- from before, so that nothing names it any more as the record that it was
     unfoldable pub dies : ℕ → Bool
     dies r = isOf y (seen E T r) && not (any (λ k. oneRecord E (getD roots k 0) r) (length roots)) && not (any (stillNames E T x y r) N)
 
@@ -155,9 +140,31 @@ module _ (E : Edition) (T : ℕ → Node) (N x y : ℕ) where
     unfoldable pub dyingCount : ℕ
     dyingCount = count (λ i. dies (ref i)) N
 
-    -- 4.3 to 4.6: record i afterwards: a crossing one keeps its number, a slot holds its new record, what dies is free, and any other is as it was
+    -- 4.3, case 4: where new records go, one after the other: the records that were free before the swap, lowest number first,
+    -- and then those that die in this swap, lowest first
+    unfoldable pub slots : List ℕ
+    slots = which (λ i. isFreeNode (T i)) N ++ which (λ i. dies (ref i)) N
+
+    -- 4.4: how many records are used after the swap: those before, plus new, less dying
+    unfoldable pub usedAfterwards : ℕ
+    usedAfterwards = usedCount T N + needed - dyingCount
+
+    -- 4.4: there is room exactly where these do not outnumber the table, which is where needed is not above free and dying (`fits-slots` of Room)
+    unfoldable pub fits : Bool
+    fits = leb usedAfterwards N
+
+    -- which of the slots record i is; the number of slots for one that is none
+    unfoldable pub slotIndex : ℕ → ℕ
+    slotIndex i = first (λ j. eqb (getD slots j 0) i) (length slots)
+
+    -- a new record goes to record i
+    unfoldable pub filled : ℕ → Bool
+    filled i = ltb (slotIndex i) needed
+
+    -- 4.3 to 4.6: record i afterwards: a crossing one keeps its number, a slot holds its new record, what dies and is no such slot is free,
+    -- and any other is as it was
     unfoldable pub recordAfter : ℕ → Node
-    recordAfter i = cond (crossing E T x y i) (becomes (ref i)) (cond (filled i) (getD news (slotIndex T N i) free) (cond (dies (ref i)) free (T i)))
+    recordAfter i = cond (crossing E T x y i) (becomes slots (ref i)) (cond (filled i) (getD news (slotIndex i) free) (cond (dies (ref i)) free (T i)))
 
 -- the whole table afterwards
 unfoldable pub swapped : Edition → List Node → ℕ → ℕ → List ℕ → List Node

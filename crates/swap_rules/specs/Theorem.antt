@@ -2,12 +2,12 @@
 use Prim.Native.Nat.{ℕ, _+_, _<_}
 use mathlib.Core.Bool.{Bool, true, false, cond}
 use mathlib.Core.List.{List}
-use mathlib.Core.Logic.{_⊎_, inl, inr, ⊎-elim}
-use mathlib.Core.Path.{_≡_, refl, ap, sym, _∙_}
+use mathlib.Core.Logic.{inl, inr, ⊎-elim}
+use mathlib.Core.Path.{_≡_, refl, ap, sym, _∙_, subst}
 use lib.ListN.{length, getD}
 use Rattle.lists.specs.Says.{Says}
 use Rattle.lists.specs.Total.{count-agrees}
-use Rattle.lists.specs.Truth.{by}
+use Rattle.lists.specs.Truth.{clash}
 use Rattle.diagrams.specs.Node.{Node, free, node, pick, Constant, at, ref, look}
 use Rattle.diagrams.specs.Edition.{Edition, plain, seen, Rooted, seen-terminal}
 use Rattle.diagrams.specs.Bryant.{Vertex, Bryant}
@@ -18,25 +18,19 @@ use Rattle.diagrams.specs.Value.{value, withInput, Value}
 use Rattle.diagrams.specs.Falls.{value-unique, value-is}
 use Rattle.orders.specs.Permutation.{levelOf}
 use Rattle.orders.specs.Exchange.{exchange, length-exchange}
-use Rattle.swap_rules.specs.Record.{lowOf, highOf, isFreeNode, isUsedNode, UsedOf, free-true}
-use Rattle.swap_rules.specs.Swap.{xAt, yAt, grandchild, f00, f01, f10, f11, crosses, dies, X, needed, filled, dyingCount, usedCount, recordAfter, swapped}
-use Rattle.swap_rules.specs.Step.{Side, Step, OneSwap, crosses-x}
-use Rattle.swap_rules.specs.Stays.{crossed-is, x-lives, lasts}
-use Rattle.swap_rules.specs.Graph.{swap-again, lasting-named}
+use Rattle.swap_rules.specs.Record.{lowOf, highOf, isFreeNode, isUsedNode, isOf, UsedOf, of-node, of-other, of-free, free-true}
+use Rattle.swap_rules.specs.Swap.{xAt, yAt, grandchild, f00, f01, f10, f11, crosses, dies, slots, X, needed, filled}
+use Rattle.swap_rules.specs.Swap.{dyingCount, usedCount, recordAfter, swapped}
+use Rattle.swap_rules.specs.Step.{Side, Open, Kind, kept, crossed, fresh, gone, Step, OneSwap, crosses-x}
+use Rattle.swap_rules.specs.Stays.{crossed-is, x-lives}
+use Rattle.swap_rules.specs.Graph.{swap-again}
 use Rattle.swap_rules.specs.Values.{value-kept, root-kept, side-value, side-cofactor}
-use Rattle.swap_rules.specs.Fitting.{Fitting}
-use Rattle.swap_rules.specs.Dying.{dies-y, dies-unrooted}
-use Rattle.swap_rules.specs.Computed.{after-kept, dying-free, computed-step}
+use Rattle.swap_rules.specs.Fitting.{Fitting, y-stays}
+use Rattle.swap_rules.specs.Computed.{after-kept, computed-step}
 use Rattle.swap_rules.specs.Count.{used-after}
 use Rattle.swap_rules.specs.Stored.{Written, SwapFits, exchange-levels, fitting, swapped-in, swapped-seen, swapped-written}
 
 -- ---- what the theorems say
-
--- a y record from before, which no root names and no record names afterwards
-pub record Unnamed (L L′ : ℕ → Node) (Root : ℕ → Type 0) (y r : ℕ) : Type 0 where
-  pub was-y : UsedOf y (L r)
-  pub no-root : Root r → ⊥
-  pub no-record : Named L′ r → ⊥
 
 -- the reference r of a crossing record: its function is kept, and its new children are its cofactors by y: low reads as r does with the
 -- input y 0, high with 1. By the grandchildren: low is f00 where the input x is 0 and f10 where it is 1, high is f01 and f11
@@ -52,7 +46,7 @@ pub record Cofactors (L L′ : ℕ → Node) (n x y r : ℕ) : Type 0 where
 
 -- ---- the theorems
 
-module _ {E : Edition} {t : List Node} {ord : List ℕ} {k : ℕ} (S : SwapFits E t ord k) (roots : List ℕ) where
+module _ {E : Edition} {t : List Node} {roots ord : List ℕ} {k : ℕ} (S : SwapFits E t roots ord k) where
   abbrev x : ℕ
   x = xAt ord k
 
@@ -79,32 +73,28 @@ module _ {E : Edition} {t : List Node} {ord : List ℕ} {k : ℕ} (S : SwapFits 
   Dies = dies E (at t) (length t) x y roots
 
   abbrev Xt : ℕ → ℕ → ℕ
-  Xt = X E (at t) (length t) x y
+  Xt = X E (at t) (length t) x y (slots E (at t) (length t) x y roots)
 
-  R : Fitting E (at t) (length t) x y
+  R : Fitting E (at t) (length t) x y roots
   R = fitting S
 
   seen-after : L′ ≡ seen E (recordAfter E (at t) (length t) x y roots)
   seen-after = swapped-seen E t x y roots R
 
   step : Step (E .Terminal) L L′ Root x y Xt Dies
-  step = rw seen-after (computed-step R roots)
+  step = rw seen-after (computed-step R)
 
   -- a record that does not cross, that no new one goes to and that does not die stays as it is
-  pub swap-else : (i : ℕ) → i < length t → crosses L x y (ref i) ≡ false → filled E (at t) (length t) x y i ≡ false → Dies (ref i) ≡ false
+  pub swap-else : (i : ℕ) → i < length t → crosses L x y (ref i) ≡ false → filled E (at t) (length t) x y roots i ≡ false → Dies (ref i) ≡ false
       → at t′ i ≡ at t i
-  swap-else i l c g d = swapped-in E t x y roots i l ∙ after-kept R roots i c g d
-
-  -- what dies is free afterwards
-  pub dies-free : (r : ℕ) → Dies r ≡ true → L′ r ≡ free
-  dies-free r d = ap (λ (f : ℕ → Node). f r) seen-after ∙ dying-free R roots r d
+  swap-else i l c g d = swapped-in E t x y roots i l ∙ after-kept R i c g d
 
   -- the used records are those before, plus new, less dying
   pub swap-count : usedCount (at t′) (length t) + dyingCount E (at t) (length t) x y roots ≡ usedCount (at t) (length t) + needed E (at t) (length t) x y
   unfolding usedCount
   swap-count =
       ap (λ m. m + dyingCount E (at t) (length t) x y roots) (count-agrees _ _ (length t) (λ i l. ap isUsedNode (swapped-in E t x y roots i l)))
-      ∙ used-after R roots
+      ∙ used-after R
 
   -- what the edition asks of the records holds again
   pub swap-written : Written E t′
@@ -146,39 +136,38 @@ module _ {E : Edition} {t : List Node} {ord : List ℕ} {k : ℕ} (S : SwapFits 
         by-x inputs d true = refl
         by-x inputs d false = refl
 
-    -- step 3: what dies is exactly what was a y record, and what no root and no record names afterwards
-    pub dies-exactly : (r : ℕ) → Says (Dies r) (Unnamed L L′ Root y r)
-    dies-exactly r = record { yes = dead; no = alive }
+    -- a y record dies exactly where it is none afterwards: it is free then, or holds a new record
+    pub dies-exactly : (r : ℕ) → UsedOf y (L r) → Says (Dies r) (isOf y (L′ r) ≡ false)
+    dies-exactly r u = go (step .kind r)
       where
-        nobody : Dies r ≡ true → (m : Named L′ r) → Vertex (E .Terminal) L′ (pick (m .side) (m .low) (m .high)) → ⊥
-        nobody d m (inl c) = free-node (seen-terminal E (at t) r (rw (m .names) at c)) (dies-y R roots r d .is)
-        nobody d m (inr v) = free-node (ap L′ (m .names) ∙ dies-free r d) (v .is)
+        go : Kind (E .Terminal) L L′ x y Xt Dies r → Says (Dies r) (isOf y (L′ r) ≡ false)
+        go (kept e f d) = record { yes = λ t. clash t d; no = λ n. clash (of-node y (e ∙ u .is)) n }
+        go (crossed l h e c e′) = clash c (y-stays R r u)
+        go (fresh a b c o e s d i) = record { yes = λ t. of-other y e (R .differ); no = λ n. opened o }
+          where
+            opened : Open L Dies r → Dies r ≡ true
+            opened (inl z) = free-node z (u .is)
+            opened (inr t) = t
+        go (gone t e) = record { yes = λ d. of-free y e; no = λ n. t }
 
-        dead : Dies r ≡ true → Unnamed L L′ Root y r
-        dead d = record {
-          was-y = dies-y R roots r d;
-          no-root = dies-unrooted R roots r d;
-          no-record = λ m. nobody d m (swap-again W .graph .closed (m .parent) (m .is) (m .side));
-        }
-
-        alive : Unnamed L L′ Root y r → Dies r ≡ true
-        alive u = ⊎-elim (λ d. d) (λ d. absurd (⊎-elim (u .no-root) (u .no-record) (lasting-named W r (nonterminal (u .was-y .is)) d))) (by (Dies r))
-
-    -- and so a y record from before is free afterwards exactly where no root and no record names it then
+    -- step 3: a y record from before is free afterwards exactly where no root and no record names it then
     pub freed-exactly : (r : ℕ) → UsedOf y (L r) → Says (isFreeNode (L′ r)) ((Root r → ⊥) × (Named L′ r → ⊥))
     unfolding isFreeNode
-    freed-exactly r u = record {
-      yes = λ e. let w : Unnamed L L′ Root y r = dies-exactly r .yes (gone (free-true (L′ r) e) (by (Dies r))) in (w .no-root, w .no-record);
-      no = λ w. rw (dies-free r (dies-exactly r .no (record { was-y = u; no-root = w .0; no-record = w .1 })));
-    }
+    freed-exactly r u = record { yes = λ e. (λ m. used-then e (D′ .graph .rooted r m), λ m. used-then e (named-then m)); no = λ w. unnamed w (L′ r) refl }
       where
-        lasting : L′ r ≡ free → Vertex (E .Terminal) L′ r → ⊥
-        lasting e (inl c) = free-node (seen-terminal E (at t) r c) (u .is)
-        lasting e (inr m) = free-node e (m .is)
+        D′ : Diagram (E .Terminal) L′ Root (levelOf (exchange ord k)) n
+        D′ = swap-again W
 
-        gone : L′ r ≡ free → (Dies r ≡ true) ⊎ (Dies r ≡ false) → Dies r ≡ true
-        gone e (inl d) = d
-        gone e (inr d) = absurd (lasting e (lasts W r (inr (nonterminal (u .is))) d))
+        named-then : Named L′ r → Vertex (E .Terminal) L′ r
+        named-then m = subst (Vertex (E .Terminal) L′) (m .names) (D′ .graph .closed (m .parent) (m .is) (m .side))
+
+        used-then : isFreeNode (L′ r) ≡ true → Vertex (E .Terminal) L′ r → ⊥
+        used-then e (inl c) = free-node (seen-terminal E (at t) r c) (u .is)
+        used-then e (inr m) = free-node (free-true (L′ r) e) (m .is)
+
+        unnamed : (Root r → ⊥) × (Named L′ r → ⊥) → (m : Node) → L′ r ≡ m → isFreeNode (L′ r) ≡ true
+        unnamed w free e = rw e
+        unnamed w (node v l h) e = absurd (⊎-elim (w .0) (w .1) (D′ .named r (nonterminal e)))
 
   -- Bryant's diagram again
   pub swap-bryant : Bryant (E .Terminal) L Root (levelOf ord) n → Bryant (E .Terminal) L′ Root (levelOf (exchange ord k)) (length (exchange ord k))
@@ -186,14 +175,14 @@ module _ {E : Edition} {t : List Node} {ord : List ℕ} {k : ℕ} (S : SwapFits 
 
 -- ---- the plain edition: what a root reads as
 
-module _ {t : List Node} {ord : List ℕ} {k : ℕ} (S : SwapFits plain t ord k) (roots : List ℕ)
+module _ {t : List Node} {roots ord : List ℕ} {k : ℕ} (S : SwapFits plain t roots ord k)
     (D : Diagram Constant (look (at t)) (Rooted plain roots) (levelOf ord) (length ord)) where
   abbrev T′ : ℕ → Node
   T′ = look (at (swapped plain t (xAt ord k) (yAt ord k) roots))
 
   pub swap-reads : (inputs : ℕ → Bool) (j : ℕ) → j < length roots → (v : Bool)
       → Value (look (at t)) inputs (getD roots j 0) v → Value T′ inputs (getD roots j 0) v
-  swap-reads inputs j l v p = rw (read ∙ sym (swap-root S roots D inputs j l)) (value-is (look-ends _) (D′ .graph) inputs r (D′ .graph .rooted r root))
+  swap-reads inputs j l v p = rw (read ∙ sym (swap-root S D inputs j l)) (value-is (look-ends _) (D′ .graph) inputs r (D′ .graph .rooted r root))
     where
       r : ℕ
       r = getD roots j 0
@@ -202,7 +191,7 @@ module _ {t : List Node} {ord : List ℕ} {k : ℕ} (S : SwapFits plain t ord k)
       root = record { index = j; below = l; holds = refl }
 
       D′ : Diagram Constant T′ (Rooted plain roots) (levelOf (exchange ord k)) (length ord)
-      D′ = rw (length-exchange ord k) at (swap-diagram S roots D)
+      D′ = rw (length-exchange ord k) at (swap-diagram S D)
 
       read : v ≡ value (look (at t)) inputs (length ord) r
       read = value-unique (look-ends (at t)) p (value-is (look-ends (at t)) (D .graph) inputs r (D .graph .rooted r root))

@@ -83,7 +83,7 @@ module _ (t r o : List ℕ) (k : ℕ) (able : Swappable t r o k) where
     y-is : yAt (q .variables) k ≡ yAt o k
     y-is = variable-is (k + 1) (able .level)
 
-    same-way : wayOf t (q .variables) k ≡ wayOf t o k
+    same-way : wayOf t r (q .variables) k ≡ wayOf t r o k
     unfolding wayOf
     same-way = rw (x-is, y-is)
 
@@ -93,7 +93,7 @@ module _ (t r o : List ℕ) (k : ℕ) (able : Swappable t r o k) where
         w ∙ ap (λ (z : Order). bytesOf z (length o)) e ∙ exchanged-bytes arranged k (able .level) ∙ ap (λ s. exchange s k) same
 
     module _ {w : Way} {t′ : List ℕ} (out : TableSwapped t r (q .variables) k w t′) where
-      met : w ≡ wayOf t o k
+      met : w ≡ wayOf t r o k
       met = out .answer ∙ same-way
 
       pub swap-none : {l : Lack} → w ≡ way.NoRoom l → SwapDone t r o k (NoRoom l) t′ o

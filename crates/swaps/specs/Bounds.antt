@@ -64,7 +64,7 @@ module _ (t r o : List ℕ) (k m : ℕ) (big : 2 * mostRecords < m) (level : k <
   unfolding wayOf swapStages Bounded
   judged-below verdict.Clear e =
       let few = sizes-passed (clear-only (swapStages t r o k) e) .few-records in
-      way-below (fitsIn t (xAt o k) (yAt o k)) _ _ (room-small t (xAt o k) (yAt o k) m big few)
+      way-below (fitsIn t r (xAt o k) (yAt o k)) _ _ (room-small t (xAt o k) (yAt o k) m big few)
   judged-below (verdict.Refused f) e =
       let w = refusal-small t r o (stageAt 12 k (noLevel o k) ∷ []) m (f .number) (f .place) (omega arith) (omega arith, omega arith, tt) e in
       (w .0, (w .1, tt))

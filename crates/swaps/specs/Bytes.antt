@@ -1,5 +1,5 @@
 -- A fitting swap of a stored table, over its bytes: it passes every check again, under the exchanged order, and every root keeps its value.
-use Prim.Native.Nat.{ℕ, _+_, _*_, _%_, _<_}
+use Prim.Native.Nat.{ℕ, _+_, _-_, _*_, _%_, _<_}
 use native.Mathlib.Omega.{arith}
 use mathlib.Core.Bool.{Bool, true, false, cond, not}
 use mathlib.Core.List.{List}
@@ -29,9 +29,10 @@ use Rattle.checks.specs.declared.CheckAnswer.the-variants.{Accepted}
 use Rattle.diagrams.specs.Edition.{plain}
 use Rattle.swap_rules.specs.Record.{isUsedNode, isFreeNode, UsedOf, Behind, behind}
 use Rattle.swap_rules.specs.Swap.{xAt, yAt, crosses, dies, filled, usedCount, swapped}
+use Rattle.swap_rules.specs.Room.{used-or-free}
 use Rattle.swap_rules.specs.Stored.{plain-written, SwapFits, length-swapped}
 use Rattle.swap_rules.specs.Theorem.{Cofactors, swap-diagram, swap-bryant, swap-root, swap-reads, swap-else, swap-count, cofactors, freed-exactly}
-use Rattle.swaps.specs.Outcome.{neededIn, fitsIn, dyingIn, tableAfter}
+use Rattle.swaps.specs.Outcome.{neededIn, freeIn, dyingIn, fitsIn, tableAfter}
 
 -- ---- as many records as before
 
@@ -62,9 +63,18 @@ used-is : (t : List ℕ) → used t ≡ usedCount (at (decode t)) (records t)
 unfolding usedCount
 used-is t = count-agrees (λ i. isUsedNode (at (decode t) i)) (isUsed t) (records t) (λ i b. ap not (free-at t i b))
 
+-- the two readings of room, over the bytes: a table of N records has no slot for each new one where more than N would be used afterwards, and only there
+pub outnumbers : (t r : List ℕ) (x y : ℕ) → freeIn t + dyingIn t r x y < neededIn t x y → records t < used t + neededIn t x y - dyingIn t r x y
+outnumbers t r x y h = rw (used-is t) (omega (arith, used-or-free (at (decode t)) (records t)))
+
+pub lacks-slots : (t r : List ℕ) (x y : ℕ) → records t < used t + neededIn t x y - dyingIn t r x y → freeIn t + dyingIn t r x y < neededIn t x y
+lacks-slots t r x y h =
+    let l : records t < usedCount (at (decode t)) (records t) + neededIn t x y - dyingIn t r x y = rw (used-is t) at h in
+    omega (arith, used-or-free (at (decode t)) (records t))
+
 -- ---- a fitting swap of a table that is accepted
 
-module _ (t r o : List ℕ) (k : ℕ) (usable : Usable t r o) (level : k + 1 < length o) (fit : fitsIn t (xAt o k) (yAt o k) ≡ true) where
+module _ (t r o : List ℕ) (k : ℕ) (usable : Usable t r o) (level : k + 1 < length o) (fit : fitsIn t r (xAt o k) (yAt o k) ≡ true) where
   abbrev x : ℕ
   x = xAt o k
 
@@ -78,14 +88,14 @@ module _ (t r o : List ℕ) (k : ℕ) (usable : Usable t r o) (level : k + 1 < l
   abbrev t′ : List ℕ
   t′ = tableAfter t r x y
 
-  swap-fits : SwapFits plain (decode t) o k
+  swap-fits : SwapFits plain (decode t) (rootsOf r) o k
   swap-fits = record { written = plain-written (decode t); order = usable .order; level = level; fit = rw (length-decode t) fit }
 
   before : Diagram Constant (lookup t) (Among (rootsOf r)) (levelOf o) (length o)
   before = diagram-of (look-ends (at (decode t))) (usable .bryant)
 
   again : Diagram Constant (look (at S)) (Among (rootsOf r)) (levelOf (exchange o k)) (length (exchange o k))
-  again = swap-diagram swap-fits (rootsOf r) before
+  again = swap-diagram swap-fits before
 
   exchanged : Permutation (exchange o k)
   exchanged = exchange-permutation o k (usable .order) level
@@ -139,7 +149,7 @@ module _ (t r o : List ℕ) (k : ℕ) (usable : Usable t r o) (level : k + 1 < l
     };
     order = exchanged;
     laid = laid-after;
-    bryant = rw decode-after (swap-bryant swap-fits (rootsOf r) (usable .bryant));
+    bryant = rw decode-after (swap-bryant swap-fits (usable .bryant));
   }
     where
       same : length t′ ≡ length t
@@ -153,7 +163,7 @@ module _ (t r o : List ℕ) (k : ℕ) (usable : Usable t r o) (level : k + 1 < l
       → value (lookup t′) inputs (length o) (rootAt r position) ≡ value (lookup t) inputs (length o) (rootAt r position)
   swap-root-value inputs position b =
       let e : value (look (at S)) inputs (length o) (getD (rootsOf r) position 0) ≡ value (lookup t) inputs (length o) (getD (rootsOf r) position 0) =
-      swap-root swap-fits (rootsOf r) before inputs position (rw (length-roots r) b) in
+      swap-root swap-fits before inputs position (rw (length-roots r) b) in
       rw decode-after (rw (root-is r position b) at e)
 
   -- the same, of what a root reads as
@@ -161,12 +171,12 @@ module _ (t r o : List ℕ) (k : ℕ) (usable : Usable t r o) (level : k + 1 < l
       → Value (lookup t) inputs (rootAt r position) v → Value (lookup t′) inputs (rootAt r position) v
   swap-root-reads inputs position b =
       let e : (v : Bool) → Value (lookup t) inputs (getD (rootsOf r) position 0) v → Value (look (at S)) inputs (getD (rootsOf r) position 0) v =
-      swap-reads swap-fits (rootsOf r) before inputs position (rw (length-roots r) b) in
+      swap-reads swap-fits before inputs position (rw (length-roots r) b) in
       rw decode-after (rw (root-is r position b) at e)
 
   -- the function of a crossing record, and those of its new children
   pub swap-cofactors : (q : ℕ) → crosses (lookup t) x y q ≡ true → Cofactors (lookup t) (lookup t′) (length o) x y q
-  swap-cofactors q c = rw decode-after (cofactors swap-fits (rootsOf r) before q c)
+  swap-cofactors q c = rw decode-after (cofactors swap-fits before q c)
 
   -- step 3: a y record from before is free afterwards exactly where no root names it, and no used record of the table afterwards
   pub swap-frees-exactly : (i : ℕ) → i < records t → variableAt t i ≡ y
@@ -186,7 +196,7 @@ module _ (t r o : List ℕ) (k : ℕ) (usable : Usable t r o) (level : k + 1 < l
       was-y = record { low = lowAt t i; high = highAt t i; is = node-of t i b used-y ∙ ap (λ v. node v (lowAt t i) (highAt t i)) is-y }
 
       freed : Says (isFreeNode (look (at S) (ref i))) ((Among (rootsOf r) (ref i) → ⊥) × (Named (look (at S)) (ref i) → ⊥))
-      freed = freed-exactly swap-fits (rootsOf r) before (ref i) was-y
+      freed = freed-exactly swap-fits before (ref i) was-y
 
       free-is : isFree t′ i ≡ isFreeNode (at S i)
       free-is = free-at t′ i (rw (records-after t r x y) b) ∙ ap (λ s. isFreeNode (at s i)) decode-after
@@ -195,19 +205,19 @@ module _ (t r o : List ℕ) (k : ℕ) (usable : Usable t r o) (level : k + 1 < l
   pub swap-used : used t′ + dyingIn t r x y ≡ used t + neededIn t x y
   swap-used =
       let e : usedCount (at S) (records t) + dyingIn t r x y ≡ usedCount (at (decode t)) (records t) + neededIn t x y =
-      rw (length-decode t) at (swap-count swap-fits (rootsOf r)) in
+      rw (length-decode t) at (swap-count swap-fits) in
       let u : used t′ ≡ usedCount (at S) (records t) = used-is t′ ∙ rw (decode-after, records-after t r x y) in
       rw (u, used-is t) e
 
   -- a record that does not cross, that no new one goes to and that does not die keeps its eight bytes
   pub kept-bytes : ((j : ℕ) → getD t j 0 < 256) → (i : ℕ) → i < records t → crosses (lookup t) x y (ref i) ≡ false
-      → filled plain (at (decode t)) (records t) x y i ≡ false → dies plain (at (decode t)) (records t) x y (rootsOf r) (ref i) ≡ false
+      → filled plain (at (decode t)) (records t) x y (rootsOf r) i ≡ false → dies plain (at (decode t)) (records t) x y (rootsOf r) (ref i) ≡ false
       → take recordSize (drop (recordSize * i) t′) ≡ take recordSize (drop (recordSize * i) t)
   unfolding tableAfter
   kept-bytes bytes i b c g d =
       let b₀ : i < length (decode t) = rw (length-decode t) b in
       let b₁ : i < length S = rw (length-swapped plain (decode t) x y (rootsOf r)) b₀ in
-      let e : at S i ≡ at (decode t) i = swap-else swap-fits (rootsOf r) i b₀ c (rw (length-decode t) g) (rw (length-decode t) d) in
+      let e : at S i ≡ at (decode t) i = swap-else swap-fits i b₀ c (rw (length-decode t) g) (rw (length-decode t) d) in
       take-record S i b₁
       ∙ ap eight e
       ∙ sym (take-record (decode t) i b₀)

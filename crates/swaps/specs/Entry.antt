@@ -1,16 +1,20 @@
--- What Swap answers, and when: made where needed is not above free, no room where it is, refused where a check fails first.
+-- What Swap answers, and when: made where needed is not above free and dying, no room where it is, refused where a check fails first.
 use Prim.Native.Nat.{ℕ, _+_, _-_, _≤_, _<_}
 use native.Mathlib.Omega.{arith}
 use mathlib.Core.Bool.{Bool, true, false}
 use mathlib.Core.List.{List, [], _∷_}
 use mathlib.Core.Path.{_≡_, refl, ap, sym, _∙_}
+use lib.Dec.{leb}
 use lib.ListN.{length}
 use borrow.Author.Tests.{leb-true, leb-false, le-leb, lt-leb}
 use Rattle.lists.specs.Apart.{apart}
 use Rattle.lists.specs.Says.{Says}
 use Rattle.orders.specs.Exchange.{exchange}
 use Rattle.diagrams.specs.Layout.{records, rootCount, rootAt, variableAt, isFree}
-use Rattle.diagrams.specs.Lookup.{lookup}
+use Rattle.diagrams.specs.Edition.{plain}
+use Rattle.diagrams.specs.Node.{at}
+use Rattle.diagrams.specs.Decode.{decode}
+use Rattle.diagrams.specs.Lookup.{rootsOf, lookup}
 use Rattle.diagrams.specs.Value.{value}
 use Rattle.checks.specs.Stages.{AllPass, also, both-rows, FailsFirst, stageAt, refusal, verdictOf, passed-only, clear-only, refused-if, refused-only}
 use Rattle.checks.specs.Stages.{row-passes, place-passes}
@@ -20,7 +24,8 @@ use Rattle.checks.specs.Usable.{Usable, usable-if, passes-all, usable-clear}
 use Rattle.checks.specs.declared.Refusal.{Refusal}
 use Rattle.checks.specs.declared.Verdict.{Verdict}
 use Rattle.checks.specs.declared.Verdict.the-variants as verdict
-use Rattle.swap_rules.specs.Swap.{xAt, yAt, crosses, fits}
+use Rattle.swap_rules.specs.Swap.{xAt, yAt, crosses}
+use Rattle.swap_rules.specs.Room.{fits-slots}
 use Rattle.swap_rules.specs.Theorem.{Cofactors}
 use Rattle.swaps.specs.Outcome.{neededIn, freeIn, fitsIn, dyingIn, lack, wayOf, isClear, way-fits, way-clear, way-lacks, tableAfter}
 use Rattle.swaps.specs.Outcome.{noLevel, swapStages, Swapped, swapAfter, swapJudged, swapOf, SwapOutcome}
@@ -37,22 +42,31 @@ use Rattle.swaps.specs.declared.SwapAnswer.the-variants.{Made, NoRoom, R
 abbrev pub Needed : List ℕ → List ℕ → ℕ → ℕ
 Needed t o k = neededIn t (xAt o k) (yAt o k)
 
-module _ (t o : List ℕ) (k : ℕ) where
-  pub fits-then : isClear (wayOf t o k) ≡ true → Needed t o k ≤ freeIn t
-  unfolding fits
-  fits-then e = leb-true (Needed t o k) (freeIn t) (sym (way-fits t o k) ∙ e)
+-- and how many records die in it
+abbrev pub Dying : List ℕ → List ℕ → List ℕ → ℕ → ℕ
+Dying t r o k = dyingIn t r (xAt o k) (yAt o k)
 
-  pub clear-if-fits : Needed t o k ≤ freeIn t → wayOf t o k ≡ way.Clear
-  unfolding wayOf fits
-  clear-if-fits h = rw (le-leb (Needed t o k) (freeIn t) h)
+module _ (t r o : List ℕ) (k : ℕ) where
+  -- the records that new ones may take
+  abbrev Slots : ℕ
+  Slots = freeIn t + Dying t r o k
 
-  pub lacks-if : freeIn t < Needed t o k → wayOf t o k ≡ way.NoRoom (lack k (Needed t o k) (freeIn t))
-  unfolding wayOf fits
-  lacks-if h = rw (lt-leb (Needed t o k) (freeIn t) h)
+  fit-is : fitsIn t r (xAt o k) (yAt o k) ≡ leb (Needed t o k) Slots
+  fit-is = fits-slots plain (at (decode t)) (records t) (xAt o k) (yAt o k) (rootsOf r)
 
-  pub lacks-then : (l : Lack) → wayOf t o k ≡ way.NoRoom l → (freeIn t < Needed t o k) × (l ≡ lack k (Needed t o k) (freeIn t))
-  unfolding fits
-  lacks-then l e = let (f, q) = way-lacks t o k l e in (leb-false (Needed t o k) (freeIn t) f, q)
+  pub fits-then : isClear (wayOf t r o k) ≡ true → Needed t o k ≤ freeIn t + Dying t r o k
+  fits-then e = leb-true (Needed t o k) Slots (sym fit-is ∙ sym (way-fits t r o k) ∙ e)
+
+  pub clear-if-fits : Needed t o k ≤ freeIn t + Dying t r o k → wayOf t r o k ≡ way.Clear
+  unfolding wayOf
+  clear-if-fits h = rw (fit-is ∙ le-leb (Needed t o k) Slots h)
+
+  pub lacks-if : freeIn t + Dying t r o k < Needed t o k → wayOf t r o k ≡ way.NoRoom (lack k (Needed t o k) (freeIn t))
+  unfolding wayOf
+  lacks-if h = rw (fit-is ∙ lt-leb (Needed t o k) Slots h)
+
+  pub lacks-then : (l : Lack) → wayOf t r o k ≡ way.NoRoom l → (freeIn t + Dying t r o k < Needed t o k) × (l ≡ lack k (Needed t o k) (freeIn t))
+  lacks-then l e = let (f, q) = way-lacks t r o k l e in (leb-false (Needed t o k) Slots (sym fit-is ∙ f), q)
 
 -- ---- Swap of a table that is accepted, at two levels of its order
 
@@ -63,25 +77,27 @@ module _ (t r o : List ℕ) (k : ℕ) (usable : Usable t r o) (level : k + 1 < l
       sym (row-passes (checkStages t r o) (stageAt 12 k (noLevel o k) ∷ []) refl (usable-clear t r o usable)
       (place-passes 12 k (noLevel o k) false verdict.Clear verdict.Clear (sym (lt-leb (length o - 1) k (omega arith))) refl refl))
 
-  swap-is : swapOf t r o k ≡ swapAfter t r o k (wayOf t o k)
+  swap-is : swapOf t r o k ≡ swapAfter t r o k (wayOf t r o k)
   unfolding swapOf
   swap-is = ap (swapJudged t r o k) all-clear
 
   -- it is made where nothing stands in the way
-  pub swap-clear : isClear (wayOf t o k) ≡ true → swapOf t r o k ≡ record { answer = Made; table = tableAfter t r (xAt o k) (yAt o k); order = exchange o k }
-  swap-clear e = swap-is ∙ ap (swapAfter t r o k) (way-clear t o k e)
+  pub swap-clear : isClear (wayOf t r o k) ≡ true → swapOf t r o k ≡ record { answer = Made; table = tableAfter t r (xAt o k) (yAt o k); order = exchange o k }
+  swap-clear e = swap-is ∙ ap (swapAfter t r o k) (way-clear t r o k e)
 
   -- otherwise the answer is what stands in the way, and nothing changes
-  pub swap-stuck : (l : Lack) → wayOf t o k ≡ way.NoRoom l → swapOf t r o k ≡ record { answer = NoRoom l; table = t; order = o }
+  pub swap-stuck : (l : Lack) → wayOf t r o k ≡ way.NoRoom l → swapOf t r o k ≡ record { answer = NoRoom l; table = t; order = o }
   swap-stuck l e = swap-is ∙ ap (swapAfter t r o k) e
 
-  -- made where needed is not above free; `made-only` says that it is made in no other case
-  pub swap-made : Needed t o k ≤ freeIn t → swapOf t r o k ≡ record { answer = Made; table = tableAfter t r (xAt o k) (yAt o k); order = exchange o k }
-  swap-made h = swap-is ∙ ap (swapAfter t r o k) (clear-if-fits t o k h)
+  -- made where needed is not above free and dying; `made-only` says that it is made in no other case
+  pub swap-made : Needed t o k ≤ freeIn t + Dying t r o k
+      → swapOf t r o k ≡ record { answer = Made; table = tableAfter t r (xAt o k) (yAt o k); order = exchange o k }
+  swap-made h = swap-is ∙ ap (swapAfter t r o k) (clear-if-fits t r o k h)
 
-  -- no room where needed is above free, with these two; `lacks-only` says that it is given in no other case
-  pub swap-lacks : freeIn t < Needed t o k → swapOf t r o k ≡ record { answer = NoRoom (lack k (Needed t o k) (freeIn t)); table = t; order = o }
-  swap-lacks h = swap-stuck (lack k (Needed t o k) (freeIn t)) (lacks-if t o k h)
+  -- no room where needed is above both, with needed and free; `lacks-only` says that it is given in no other case
+  pub swap-lacks : freeIn t + Dying t r o k < Needed t o k
+      → swapOf t r o k ≡ record { answer = NoRoom (lack k (Needed t o k) (freeIn t)); table = t; order = o }
+  swap-lacks h = swap-stuck (lack k (Needed t o k) (freeIn t)) (lacks-if t r o k h)
 
 -- ---- and of no other one: what isn't refused was accepted, and has the two levels
 
@@ -97,25 +113,25 @@ module _ (t r o : List ℕ) (k : ℕ) where
 
   -- an answer that is no refusal comes from a table that passed, and is what stands in the way
   unrefused : (a : SwapAnswer) → swapOf t r o k .answer ≡ a → ((f : Refusal) → a ≡ Refused f → ⊥)
-      → (Usable t r o × (k + 1 < length o)) × (swapAfter t r o k (wayOf t o k) .answer ≡ a)
+      → (Usable t r o × (k + 1 < length o)) × (swapAfter t r o k (wayOf t r o k) .answer ≡ a)
   unfolding swapOf
   unrefused a e n = go (verdictOf (swapStages t r o k)) refl e
     where
       go : (v : Verdict) → verdictOf (swapStages t r o k) ≡ v → swapJudged t r o k v .answer ≡ a
-          → (Usable t r o × (k + 1 < length o)) × (swapAfter t r o k (wayOf t o k) .answer ≡ a)
+          → (Usable t r o × (k + 1 < length o)) × (swapAfter t r o k (wayOf t r o k) .answer ≡ a)
       go verdict.Clear c q = (swap-starts (clear-only (swapStages t r o k) c), q)
       go (verdict.Refused f) c q = absurd (n f (sym q))
 
-  pub made-only : swapOf t r o k .answer ≡ Made → (Usable t r o × (k + 1 < length o)) × (isClear (wayOf t o k) ≡ true)
-  made-only e = let (w, q) = unrefused Made e (λ f q. apart (cc)) in (w, go (wayOf t o k) q)
+  pub made-only : swapOf t r o k .answer ≡ Made → (Usable t r o × (k + 1 < length o)) × (isClear (wayOf t r o k) ≡ true)
+  made-only e = let (w, q) = unrefused Made e (λ f q. apart (cc)) in (w, go (wayOf t r o k) q)
     where
       go : (w : Way) → swapAfter t r o k w .answer ≡ Made → isClear w ≡ true
       go way.Clear q = refl
       go (way.NoRoom l) q = apart (cc)
 
   pub lacks-only : (l : Lack) → swapOf t r o k .answer ≡ NoRoom l
-      → (Usable t r o × (k + 1 < length o)) × (freeIn t < Needed t o k) × (l ≡ lack k (Needed t o k) (freeIn t))
-  lacks-only l e = let (w, q) = unrefused (NoRoom l) e (λ f q. apart (cc)) in let (f, p) = lacks-then t o k l (go (wayOf t o k) q) in (w, f, p)
+      → (Usable t r o × (k + 1 < length o)) × (freeIn t + Dying t r o k < Needed t o k) × (l ≡ lack k (Needed t o k) (freeIn t))
+  lacks-only l e = let (w, q) = unrefused (NoRoom l) e (λ f q. apart (cc)) in let (f, p) = lacks-then t r o k l (go (wayOf t r o k) q) in (w, f, p)
     where
       go : (w : Way) → swapAfter t r o k w .answer ≡ NoRoom l → w ≡ way.NoRoom l
       go way.Clear q = apart (cc)
@@ -123,8 +139,8 @@ module _ (t r o : List ℕ) (k : ℕ) where
 
   -- so a made swap leaves an accepted table under the exchanged order, and every root's values
   module _ (made : swapOf t r o k .answer ≡ Made) where
-    fit : fitsIn t (xAt o k) (yAt o k) ≡ true
-    fit = sym (way-fits t o k) ∙ made-only made .1
+    fit : fitsIn t r (xAt o k) (yAt o k) ≡ true
+    fit = sym (way-fits t r o k) ∙ made-only made .1
 
     pub made-is : swapOf t r o k ≡ record { answer = Made; table = tableAfter t r (xAt o k) (yAt o k); order = exchange o k }
     made-is = let w = made-only made in swap-clear t r o k (w .0 .0) (w .0 .1) (w .1)
@@ -145,7 +161,7 @@ module _ (t r o : List ℕ) (k : ℕ) where
         → Says (isFree (swapOf t r o k .table) i) ((NamedByRoot r (i + 2) → ⊥) × (NamedByRecord (swapOf t r o k .table) (i + 2) → ⊥))
     made-frees i b y = let w = made-only made in rw made-is (swap-frees-exactly t r o k (w .0 .0) (w .0 .1) fit i b y)
 
-    pub made-used : used (swapOf t r o k .table) + dyingIn t r (xAt o k) (yAt o k) ≡ used t + Needed t o k
+    pub made-used : used (swapOf t r o k .table) + Dying t r o k ≡ used t + Needed t o k
     made-used = let w = made-only made in rw made-is (swap-used t r o k (w .0 .0) (w .0 .1) fit)
 
   -- a swap that isn't made changes nothing
@@ -158,7 +174,7 @@ module _ (t r o : List ℕ) (k : ℕ) where
       stuck (way.NoRoom l) m = (refl, refl)
 
       go : (v : Verdict) → (swapJudged t r o k v .answer ≡ Made → ⊥) → (swapJudged t r o k v .table ≡ t) × (swapJudged t r o k v .order ≡ o)
-      go verdict.Clear m = stuck (wayOf t o k) m
+      go verdict.Clear m = stuck (wayOf t r o k) m
       go (verdict.Refused f) m = (refl, refl)
 
   -- one outcome for each input
@@ -179,5 +195,5 @@ module _ (t r o : List ℕ) (k : ℕ) where
       not-refused (way.NoRoom l) q = apart (cc)
 
       go : (v : Verdict) → swapJudged t r o k v .answer ≡ Refused (refusal n p) → v ≡ verdict.Refused (refusal n p)
-      go verdict.Clear q = not-refused (wayOf t o k) q
+      go verdict.Clear q = not-refused (wayOf t r o k) q
       go (verdict.Refused f) q = cc

@@ -35,22 +35,22 @@ neededIn t x y = needed plain (at (decode t)) (records t) x y
 abbrev pub freeIn : List ℕ → ℕ
 freeIn t = freeCount (at (decode t)) (records t)
 
--- there is room unless needed is above free
-abbrev pub fitsIn : List ℕ → ℕ → ℕ → Bool
-fitsIn t x y = fits plain (at (decode t)) (records t) x y
-
--- how many records become free: y records that neither the roots r nor a record names any more
+-- dying: how many y records neither the roots r nor a record that keeps its references names
 abbrev pub dyingIn : List ℕ → List ℕ → ℕ → ℕ → ℕ
 dyingIn t r x y = dyingCount plain (at (decode t)) (records t) x y (rootsOf r)
+
+-- there is room unless the records used after it would outnumber the table
+abbrev pub fitsIn : List ℕ → List ℕ → ℕ → ℕ → Bool
+fitsIn t r x y = fits plain (at (decode t)) (records t) x y (rootsOf r)
 
 -- ---- what stands in the way of a swap of levels k and k + 1 of the order o: nothing, or that there is no room
 
 abbrev pub lack : ℕ → ℕ → ℕ → Lack
 lack level needed free = record { level = level; needed = needed; free = free }
 
--- the one answer that Swap, a slice and its judgement cite: no room where needed is above free, with the level and these two numbers
-unfoldable pub wayOf : List ℕ → List ℕ → ℕ → Way
-wayOf t o k = cond (fitsIn t (xAt o k) (yAt o k)) way.Clear (way.NoRoom (lack k (neededIn t (xAt o k) (yAt o k)) (freeIn t)))
+-- the one answer that Swap, a slice and its judgement cite: where there is no room, with the level, needed and free
+unfoldable pub wayOf : List ℕ → List ℕ → List ℕ → ℕ → Way
+wayOf t r o k = cond (fitsIn t r (xAt o k) (yAt o k)) way.Clear (way.NoRoom (lack k (neededIn t (xAt o k) (yAt o k)) (freeIn t)))
 
 abbrev pub isClear : Way → Bool
 isClear way.Clear = true
@@ -62,7 +62,7 @@ tableAfter t r x y = encode (swapped plain (decode t) x y (rootsOf r))
 
 -- a swap of the table alone
 pub record TableSwapped (t r o : List ℕ) (k : ℕ) (w : Way) (t′ : List ℕ) : Type 0 where
-  pub answer : w ≡ wayOf t o k
+  pub answer : w ≡ wayOf t r o k
   pub table : t′ ≡ cond (isClear w) (tableAfter t r (xAt o k) (yAt o k)) t
 
 -- ---- the entry
@@ -86,7 +86,7 @@ swapAfter t r o k way.Clear = record { answer = Made; table = tableAfter t r (xA
 swapAfter t r o k (way.NoRoom l) = record { answer = NoRoom l; table = t; order = o }
 
 abbrev pub swapJudged : List ℕ → List ℕ → List ℕ → ℕ → Verdict → Swapped
-swapJudged t r o k verdict.Clear = swapAfter t r o k (wayOf t o k)
+swapJudged t r o k verdict.Clear = swapAfter t r o k (wayOf t r o k)
 swapJudged t r o k (verdict.Refused w) = record { answer = Refused w; table = t; order = o }
 
 unfoldable pub swapOf : List ℕ → List ℕ → List ℕ → ℕ → Swapped
@@ -104,14 +104,14 @@ numbers (Refused w) = w .number ∷ w .place ∷ []
 
 -- ---- what the answer says of the room
 
-module _ (t o : List ℕ) (k : ℕ) where
+module _ (t r o : List ℕ) (k : ℕ) where
   abbrev fit : Bool
-  fit = fitsIn t (xAt o k) (yAt o k)
+  fit = fitsIn t r (xAt o k) (yAt o k)
 
   abbrev lacking : Lack
   lacking = lack k (neededIn t (xAt o k) (yAt o k)) (freeIn t)
 
-  pub way-fits : isClear (wayOf t o k) ≡ fit
+  pub way-fits : isClear (wayOf t r o k) ≡ fit
   unfolding wayOf
   way-fits = go fit
     where
@@ -119,14 +119,14 @@ module _ (t o : List ℕ) (k : ℕ) where
       go true = refl
       go false = refl
 
-  pub way-clear : isClear (wayOf t o k) ≡ true → wayOf t o k ≡ way.Clear
-  way-clear e = go (wayOf t o k) e
+  pub way-clear : isClear (wayOf t r o k) ≡ true → wayOf t r o k ≡ way.Clear
+  way-clear e = go (wayOf t r o k) e
     where
       go : (w : Way) → isClear w ≡ true → w ≡ way.Clear
       go way.Clear q = refl
       go (way.NoRoom l) q = true-false (sym q)
 
-  pub way-lacks : (l : Lack) → wayOf t o k ≡ way.NoRoom l → (fit ≡ false) × (l ≡ lacking)
+  pub way-lacks : (l : Lack) → wayOf t r o k ≡ way.NoRoom l → (fit ≡ false) × (l ≡ lacking)
   unfolding wayOf
   way-lacks l e = go fit e
     where

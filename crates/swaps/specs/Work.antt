@@ -1,18 +1,16 @@
 -- How the code of a swap goes: the reckoning's answer, the image of the table, and the parts of the entry.
-use Prim.Native.Nat.{ℕ, _+_, _*_, _%_, _≤_, _<_}
+use Prim.Native.Nat.{ℕ, _+_, _≤_, _<_}
 use mathlib.Core.Bool.{cond}
 use mathlib.Core.List.{List}
 use mathlib.Core.Path.{_≡_}
 use lib.Dec.{leb}
 use lib.ListN.{length, take}
-use Rattle.diagrams.specs.Layout.{recordSize, mostRecords}
-use Rattle.orders.specs.Permutation.{ceiling}
 use Rattle.check_sizes.specs.Sizes.{TableSizes}
 use Rattle.checks.specs.Usable.{Usable}
 use Rattle.swap_rules.specs.Swap.{xAt, yAt}
 use Rattle.swap_records.specs.declared.Pair.{Pair}
 use Rattle.swap_reckoning.specs.declared.Counts.{Counts}
-use Rattle.swaps.specs.Outcome.{neededIn, freeIn, lack, wayOf, tableAfter, swapAfter}
+use Rattle.swaps.specs.Outcome.{neededIn, freeIn, fitsIn, lack, wayOf, tableAfter, swapAfter}
 use Rattle.swaps.specs.declared.Way.{Way}
 use Rattle.swaps.specs.declared.Way.the-variants as way
 use Rattle.swaps.specs.declared.SwapAnswer.{SwapAnswer}
@@ -26,20 +24,15 @@ pub record PairAt (o : List ℕ) (k : ℕ) (p : Pair) : Type 0 where
   pub small-x : p .x .0 < 256
   pub small-y : p .y .0 < 256
 
--- the reckoning counts what the swap needs, and what is free
-pub record CountsOf (t : List ℕ) (p : Pair) (q : Counts) : Type 0 where
+-- the reckoning counts what the swap needs and what is free; and slots enough to tell whether there is room
+pub record CountsOf (t r : List ℕ) (p : Pair) (q : Counts) : Type 0 where
   pub needed-is : q .needed ≡ neededIn t (p .x .0) (p .y .0)
   pub free-is : q .free ≡ freeIn t
+  pub fit-is : leb (q .needed) (q .slots) ≡ fitsIn t r (p .x .0) (p .y .0)
 
--- no room where needed is above free
+-- no room where needed is above the slots
 unfoldable pub wayBy : ℕ → Counts → Way
-wayBy k q = cond (leb (q .needed) (q .free)) way.Clear (way.NoRoom (lack k (q .needed) (q .free)))
-
--- what asking for a swap of levels k and k + 1 takes
-pub record Asking (t : List ℕ) (k : ℕ) : Type 0 where
-  pub few-records : length t ≤ recordSize * mostRecords
-  pub whole-records : length t % recordSize ≡ 0
-  pub level : k + 1 < ceiling
+wayBy k q = cond (leb (q .needed) (q .slots)) way.Clear (way.NoRoom (lack k (q .needed) (q .free)))
 
 -- what the reckoning of a swap and the filling of an image take
 pub record Preparing (t r : List ℕ) (p : Pair) : Type 0 where
@@ -49,8 +42,8 @@ pub record Preparing (t r : List ℕ) (p : Pair) : Type 0 where
 
 -- where there is room, the front of an image that is long enough is the table afterwards
 pub record Prepared (t r : List ℕ) (p : Pair) (q : Counts) (image : List ℕ) : Type 0 where
-  pub counts : CountsOf t p q
-  pub table : q .needed ≤ q .free → length t ≤ length image → take (length t) image ≡ tableAfter t r (p .x .0) (p .y .0)
+  pub counts : CountsOf t r p q
+  pub table : q .needed ≤ q .slots → length t ≤ length image → take (length t) image ≡ tableAfter t r (p .x .0) (p .y .0)
 
 -- ---- the entry
 
@@ -61,4 +54,4 @@ pub record Swappable (t r o : List ℕ) (k : ℕ) : Type 0 where
 
 -- the answer and the buffers of such a swap
 abbrev pub SwapDone : List ℕ → List ℕ → List ℕ → ℕ → SwapAnswer → List ℕ → List ℕ → Type 0
-SwapDone t r o k a t′ o′ = record { answer = a; table = t′; order = o′ } ≡ swapAfter t r o k (wayOf t o k)
+SwapDone t r o k a t′ o′ = record { answer = a; table = t′; order = o′ } ≡ swapAfter t r o k (wayOf t r o k)

@@ -1,6 +1,5 @@
 use borrow.Author.Needs.{needs}
-use Rattle.swap_records.specs.Listed.{inside-of}
-use Rattle.swap_names.specs.Dying.{room-roots, room-others, room-standing, counted}
+use Rattle.swap_names.specs.Dying.{room-roots, room-others, counted}
 use Rattle.swap_names.proofs.count_names.Statement.{statement}
 use Rattle.swap_names.proofs.count_names.Tie as tie
 
@@ -13,6 +12,4 @@ count-names-spec =
     (λ c κs. search room-roots)
     (λ c. search needs)
     (λ c κs. search room-others)
-    (λ c. search needs)
-    (λ c κs. search (inside-of, room-standing))
     (λ c. search counted))

@@ -1,5 +1,5 @@
 use borrow.Author.Needs.{needs}
-use Rattle.swap_reckoning.specs.Reckoned.{turns-end}
+use Rattle.swap_reckoning.specs.Reckoned.{turns-end, turns-same}
 use Rattle.swap_reckoning.proofs.reckon.Statement.{statement}
 use Rattle.swap_reckoning.proofs.reckon.Tie as tie
 
@@ -9,10 +9,6 @@ reckon-spec =
     (tie.spec
     (λ c κs. search needs)
     (λ c κs. search needs)
-    (λ c κs. search needs)
     (λ c. search needs)
     (λ c. search needs)
-    (λ c. search needs)
-    (λ c. search needs)
-    (λ c. search needs)
-    (λ c. search turns-end))
+    (λ c. (search turns-end, search turns-same)))
