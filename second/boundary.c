@@ -32,6 +32,13 @@ static const uint8_t case_a_after[24] = {
     1,   0, 0, 0, 4, 0, 0, 0, /* */
     0,   0, 0, 0, 1, 0, 0, 0, /* */
 };
+/* 0: 0 (0,1), in the place of the record that died; 1: 1 (0,2). The last record
+ * isn't part of the table, and stays as it is. */
+static const uint8_t case_b_after[24] = {
+    0,   0, 0, 0, 1, 0, 0, 0, /* */
+    1,   0, 0, 0, 2, 0, 0, 0, /* */
+    255, 0, 0, 0, 0, 0, 0, 0, /* */
+};
 /* 0: 1 (0,1), which a root names; 1: 1 (0,4); 2: 0 (0,1) */
 static const uint8_t case_c_after[24] = {
     1, 0, 0, 0, 1, 0, 0, 0, /* */
@@ -49,7 +56,8 @@ static const uint8_t damaged[24] = {
 #define WHOLE 24
 #define WITHOUT_LAST 16
 
-/* Case C has both of these roots, the others only the first. */
+/* Case C has both of these roots, the others only the first. With both, no record
+ * of case B dies, and it has no room. */
 static const uint8_t roots[4] = {3, 0, 2, 0};
 #define ONE_ROOT 2
 #define TWO_ROOTS 4
@@ -264,8 +272,10 @@ static int swaps(void)
 {
     struct lent a = lend(case_a, WHOLE, ONE_ROOT);
     struct lent b = lend(case_a, WITHOUT_LAST, ONE_ROOT);
+    struct lent b_both = lend(case_a, WITHOUT_LAST, TWO_ROOTS);
     struct lent c = lend(case_a, WHOLE, TWO_ROOTS);
     struct expected made = {1, {RELAY_MADE}, case_a_after, order_1_0};
+    struct expected made_b = {1, {RELAY_MADE}, case_b_after, order_1_0};
     struct expected made_c = {1, {RELAY_MADE}, case_c_after, order_1_0};
     struct expected no_room = {
         4, {RELAY_NO_ROOM, 0, 1, 0}, case_a, order_0_1};
@@ -275,7 +285,9 @@ static int swaps(void)
 
     return swap("swap A", a, 0, LIST, made) ||
            swap("swap A, list of 4", a, 0, RELAY_SWAP_NUMBERS, made) ||
-           swap("swap B", b, 0, LIST, no_room) ||
+           swap("swap B", b, 0, LIST, made_b) ||
+           swap("swap B, both named", b_both, 0, LIST, no_room) ||
+           swap("swap B, both named, list of 3", b_both, 0, 3, nothing) ||
            swap("swap C", c, 0, LIST, made_c) ||
            swap("swap A, level 1", a, 1, LIST, no_level) ||
            swap("swap A, list of 3", a, 0, 3, nothing) ||
@@ -311,8 +323,11 @@ static int runs(void)
 {
     struct lent a = lend(case_a, WHOLE, ONE_ROOT);
     struct lent b = lend(case_a, WITHOUT_LAST, ONE_ROOT);
+    struct lent b_both = lend(case_a, WITHOUT_LAST, TWO_ROOTS);
     struct lent c = lend(case_a, WHOLE, TWO_ROOTS);
     struct expected done = {3, {RELAY_DONE, 1, 0}, case_a_after, order_1_0};
+    struct expected done_b = {
+        3, {RELAY_DONE, 1, 0}, case_b_after, order_1_0};
     struct expected done_c = {
         3, {RELAY_DONE, 1, 0}, case_c_after, order_1_0};
     struct expected there = {3, {RELAY_DONE, 0, 0}, case_a, order_0_1};
@@ -329,8 +344,11 @@ static int runs(void)
            run("run A, budget 0", a, order_1_0, 0, LIST, paused) ||
            run("run A, target 0 1", a, order_0_1, 0, LIST, there) ||
            run("run A, target 1 1", a, order_1_1, 1, LIST, refused) ||
-           run("run B", b, order_1_0, 1, LIST, no_room) ||
-           run("run B, budget 0", b, order_1_0, 0, LIST, no_room) ||
+           run("run B", b, order_1_0, 1, LIST, done_b) ||
+           run("run B, budget 0", b, order_1_0, 0, LIST, paused) ||
+           run("run B, both named", b_both, order_1_0, 1, LIST, no_room) ||
+           run("run B, both named, budget 0", b_both, order_1_0, 0, LIST,
+               no_room) ||
            run("run C", c, order_1_0, 1, LIST, done_c) ||
            run("run A, list of 5", a, order_1_0, 1, 5, nothing) ||
            run("run A, list of 0", a, order_1_0, 1, 0, nothing);

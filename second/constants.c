@@ -93,12 +93,14 @@ static void answers(void)
     expect("a shorter list for Count", count_a(0, RELAY_COUNT_NUMBERS - 1), 0);
 
     expect("RELAY_PAUSED", run(3, 1, RELAY_BRING_UP, 0), RELAY_PAUSED);
-    expect("RELAY_NO_ROOM of Run",
-           (uint32_t)relay_run(table, 16, roots, 2, order, 2, target, 2, RELAY_BRING_UP, 1, answer, RELAY_RUN_NUMBERS), RELAY_RUN_NUMBERS);
+    /* Without the free record, and with a root to record 0 too, so that it doesn't die: no room. */
+    roots[RELAY_ROOT_SIZE] = RELAY_FIRST_RECORD;
+    expect("RELAY_RUN_NUMBERS",
+           (uint32_t)relay_run(table, 16, roots, 4, order, 2, target, 2, RELAY_BRING_UP, 1, answer, RELAY_RUN_NUMBERS), RELAY_RUN_NUMBERS);
     expect("RELAY_NO_ROOM of Run", answer[0], RELAY_NO_ROOM);
     expect("a shorter list for Run",
            (uint32_t)relay_run(table, 24, roots, 2, order, 2, target, 2, RELAY_BRING_UP, 1, answer, RELAY_RUN_NUMBERS - 1), 0);
-    expect("RELAY_SWAP_NUMBERS", (uint32_t)relay_swap(table, 16, roots, 2, order, 2, 0, answer, RELAY_SWAP_NUMBERS), RELAY_SWAP_NUMBERS);
+    expect("RELAY_SWAP_NUMBERS", (uint32_t)relay_swap(table, 16, roots, 4, order, 2, 0, answer, RELAY_SWAP_NUMBERS), RELAY_SWAP_NUMBERS);
     expect("RELAY_NO_ROOM of Swap", answer[0], RELAY_NO_ROOM);
     expect("a shorter list for Swap", (uint32_t)relay_swap(table, 24, roots, 2, order, 2, 0, answer, RELAY_SWAP_NUMBERS - 1), 0);
     relay_swap(table, 24, roots, 2, order, 2, 0, answer, RELAY_SWAP_NUMBERS);

@@ -90,18 +90,26 @@ pub fn input(table: &[Bytes], roots: &[u16], order: &[u8]) -> Input {
 
 /// A chain that leads through six variables in the order 2 1 0 5 4 3, with a
 /// root to each record: a swap of any two neighbours needs one record more,
-/// and none is free. On the way to 0 1 2 3 4 5 each plan swaps another pair
-/// first.
+/// none is free, and what a root names doesn't die. On the way to 0 1 2 3 4 5
+/// each plan swaps another pair first.
 pub fn chain() -> Input {
+    chain_of([2, 1, 0, 5, 4, 3], &[2, 3, 4, 5, 6, 7])
+}
+
+/// A chain through six variables in this order, record i at level i, in a full
+/// table. A swap of levels k and k + 1 needs one record. Where only record k
+/// names record k + 1, that one dies, and its place is taken: then the chain
+/// stands as it stood, in the new order.
+pub fn chain_of(order: [u8; 6], roots: &[u16]) -> Input {
     let records = [
-        used(2, 0, 3),
-        used(1, 0, 4),
-        used(0, 0, 5),
-        used(5, 0, 6),
-        used(4, 0, 7),
-        used(3, 0, 1),
+        used(order[0], 0, 3),
+        used(order[1], 0, 4),
+        used(order[2], 0, 5),
+        used(order[3], 0, 6),
+        used(order[4], 0, 7),
+        used(order[5], 0, 1),
     ];
-    input(&records, &[2, 3, 4, 5, 6, 7], &[2, 1, 0, 5, 4, 3])
+    input(&records, roots, &order)
 }
 
 #[cfg(test)]

@@ -104,6 +104,7 @@ fn bench_sheet() -> Vec<Case> {
     vec![
         accepted("case A", 2, input(&a, &[3], &[0, 1])),
         accepted("case B", 2, input(&b, &[3], &[0, 1])),
+        accepted("case B, both named", 2, input(&b, &[3, 2], &[0, 1])),
         accepted("case C", 2, input(&a, &[3, 2], &[0, 1])),
         accepted("case D", 3, input(&d, &[3, 4], &[0, 1])),
         accepted("case E", 2, input(&e, &[2, 3], &[0, 1])),
@@ -117,15 +118,19 @@ fn bench_sheet() -> Vec<Case> {
 /// The same tables after the swap that the bench sheet tells.
 fn bench_sheet_afterwards() -> Vec<Case> {
     let a = [FREE, used(1, 0, 4), used(0, 0, 1)];
+    let b = [used(0, 0, 1), used(1, 0, 2)];
     let c = [used(1, 0, 1), used(1, 0, 4), used(0, 0, 1)];
     let e = [used(0, 0, 1), used(1, 0, 1)];
     let f = [FREE, FREE, used(1, 5, 6), used(0, 0, 1), used(0, 1, 0)];
+    let fewer = [used(0, 1, 0), FREE, used(1, 5, 2), used(0, 0, 1)];
     vec![
         accepted("case A afterwards", 2, input(&a, &[3], &[1, 0])),
+        accepted("case B afterwards", 2, input(&b, &[3], &[1, 0])),
         accepted("case C afterwards", 3, input(&c, &[3, 2], &[1, 0])),
         accepted("case D afterwards", 2, input(&a, &[3, 4], &[1, 0])),
         accepted("case E afterwards", 2, input(&e, &[2, 3], &[1, 0])),
         accepted("case F afterwards", 3, input(&f, &[4], &[1, 0])),
+        accepted("one fewer, afterwards", 3, input(&fewer, &[4], &[1, 0])),
     ]
 }
 

@@ -52,6 +52,14 @@ impl Input {
         self.bytes_mut(number).copy_from_slice(&FREE_RECORD);
     }
 
+    /// With so many free records more, at the end; perhaps with more than a table
+    /// may have.
+    pub fn with_more_free(&self, more: usize) -> Input {
+        let mut longer = self.clone();
+        longer.table.extend(FREE_RECORD.repeat(more));
+        longer
+    }
+
     pub fn root_list(&self) -> Vec<Reference> {
         self.store().roots().collect()
     }

@@ -1,7 +1,7 @@
 //! The bench sheet's cases A to K, and what lies next to them, with the
 //! answers and buffers written out by hand.
 
-use crate::by_hand::{chain, input, used, with, Case, A_0, A_1, FREE};
+use crate::by_hand::{chain, chain_of, input, used, with, Bytes, Case, A_0, A_1, FREE};
 use crate::input::Input;
 use crate::model::{Answer, Question};
 use crate::refusals::Refusal;
@@ -24,7 +24,9 @@ pub fn cases() -> Vec<Case> {
         case_h(),
         case_i(),
         each_plan_its_own_pair(),
+        stuck_on_the_way(),
         shared_lower_records(),
+        named_from_above(),
         parts_shown(),
         values_read(),
         refused_reads(),
@@ -177,13 +179,51 @@ fn b() -> Input {
     input(&[A_0, A_1], &[3], &[0, 1])
 }
 
+/// The new record 0 (0,1) has taken the place of record 0, which only the
+/// crossing record named.
+fn b_after() -> Input {
+    input(&[used(0, 0, 1), used(1, 0, 2)], &[3], &[1, 0])
+}
+
+/// B with a root to record 0 too, so that it doesn't die.
+fn b_both_named() -> Input {
+    input(&[A_0, A_1], &[3, 2], &[0, 1])
+}
+
 fn case_b() -> Vec<Case> {
-    let no_room = stuck(0, 1, lack(0, 1, 0));
+    let lack = lack(0, 1, 0);
+    let no_room = stuck(0, 1, lack);
     let to_1_0 = |budget| (&[1, 0][..], budget);
+    let named = b_both_named;
     vec![
-        swap("B", b(), 0, Answer::NoRoom(lack(0, 1, 0)), b()),
-        run("B, budget 1", b(), to_1_0(1), no_room, b()),
-        run("B, largest budget", b(), to_1_0(LARGEST), no_room, b()),
+        swap("B swapped", b(), 0, Answer::Made, b_after()),
+        run("B, budget 1", b(), to_1_0(1), done(1), b_after()),
+        run("B, budget 2", b(), to_1_0(2), done(1), b_after()),
+        run(
+            "B, largest budget",
+            b(),
+            to_1_0(LARGEST),
+            done(1),
+            b_after(),
+        ),
+        check("B afterwards", b_after(), accepted(2)),
+        // And back again: y is the 0 of record 0, which dies.
+        swap("B swapped back", b_after(), 0, Answer::Made, b()),
+        swap("B, both named", named(), 0, Answer::NoRoom(lack), named()),
+        run(
+            "B, both named, budget 1",
+            named(),
+            to_1_0(1),
+            no_room,
+            named(),
+        ),
+        run(
+            "B, both named, largest budget",
+            named(),
+            to_1_0(LARGEST),
+            no_room,
+            named(),
+        ),
     ]
 }
 
@@ -231,23 +271,100 @@ fn f() -> Input {
 }
 
 fn case_f() -> Vec<Case> {
-    let fewer = [used(1, 0, 1), used(1, 1, 0), used(0, 2, 3), FREE];
     let after = [FREE, FREE, used(1, 5, 6), used(0, 0, 1), used(0, 1, 0)];
-    let fewer = || input(&fewer, &[4], &[0, 1]);
     let after = || input(&after, &[4], &[1, 0]);
-    let lack = lack(0, 2, 1);
-    vec![
+    let mut cases = vec![
         swap("F swapped", f(), 0, Answer::Made, after()),
         run("F", f(), (&[1, 0], 1), done(1), after()),
-        swap("F, one fewer", fewer(), 0, Answer::NoRoom(lack), fewer()),
-        run(
+    ];
+    cases.extend(f_made_in_places_of_dying_records());
+    cases.extend(f_without_room());
+    cases
+}
+
+/// F with fewer free records. It needs two: 0 (0,1), and then 0 (1,0).
+fn fewer(free: usize, roots: &[u16]) -> Input {
+    let used = [used(1, 0, 1), used(1, 1, 0), used(0, 2, 3)];
+    input(&[&used[..], &vec![FREE; free]].concat(), roots, &[0, 1])
+}
+
+/// A free record goes first, whatever its number; of two that die the lower one,
+/// whichever of them is met first.
+fn f_made_in_places_of_dying_records() -> Vec<Case> {
+    let made = |name, run_name, before: Input, after: &[Bytes]| {
+        let roots = before.root_list();
+        let roots: Vec<u16> = roots.iter().map(|root| root.0).collect();
+        let after = || input(after, &roots, &[1, 0]);
+        [
+            swap(name, before.clone(), 0, Answer::Made, after()),
+            run(run_name, before, (&[1, 0], 1), done(1), after()),
+        ]
+    };
+    let turned = [used(1, 1, 0), used(1, 0, 1), used(0, 3, 2)];
+    [
+        // The free record, then record 0; record 1 becomes free.
+        made(
+            "F, one fewer",
             "F, one fewer, run",
-            fewer(),
-            (&[1, 0], 1),
-            stuck(0, 1, lack),
-            fewer(),
+            fewer(1, &[4]),
+            &[used(0, 1, 0), FREE, used(1, 5, 2), used(0, 0, 1)],
+        ),
+        // Record 0, then record 1.
+        made(
+            "F, none free",
+            "F, none free, run",
+            fewer(0, &[4]),
+            &[used(0, 0, 1), used(0, 1, 0), used(1, 2, 3)],
+        ),
+        // The low child is record 1 here, and 0 (0,1) takes record 0 all the same.
+        made(
+            "F turned, none free",
+            "F turned, none free, run",
+            input(&turned, &[4], &[0, 1]),
+            &[used(0, 0, 1), used(0, 1, 0), used(1, 2, 3)],
+        ),
+        // A root names record 0: the free record, then record 1, and that is all.
+        made(
+            "F, one free, one dying",
+            "F, one free, one dying, run",
+            fewer(1, &[4, 2]),
+            &[used(1, 0, 1), used(0, 1, 0), used(1, 5, 3), used(0, 0, 1)],
         ),
     ]
+    .concat()
+}
+
+/// Roots name one of the records of y, or both: these don't die.
+fn f_without_room() -> Vec<Case> {
+    let no_room = |name, run_name, before: Input, lack| {
+        let answer = stuck(0, 1, lack);
+        let after = before.clone();
+        [
+            swap(name, before.clone(), 0, Answer::NoRoom(lack), after.clone()),
+            run(run_name, before, (&[1, 0], 1), answer, after),
+        ]
+    };
+    [
+        no_room(
+            "F, none free, one dying",
+            "F, none free, one dying, run",
+            fewer(0, &[4, 2]),
+            lack(0, 2, 0),
+        ),
+        no_room(
+            "F, one free, none dying",
+            "F, one free, none dying, run",
+            fewer(1, &[3, 4, 2]),
+            lack(0, 2, 1),
+        ),
+        no_room(
+            "F, none free, none dying",
+            "F, none free, none dying, run",
+            fewer(0, &[2, 3, 4]),
+            lack(0, 2, 0),
+        ),
+    ]
+    .concat()
 }
 
 /// An order with no records and no roots.
@@ -342,34 +459,74 @@ fn reversed_by(plan: u32, name: &'static str, last: usize) -> Vec<Case> {
     ]
 }
 
-/// From the chain's order to 0 1 2 3 4 5, without records and with the chain:
-/// the first swap tells the plans apart.
+const CHAIN_ORDER: [u8; 6] = [2, 1, 0, 5, 4, 3];
+const RISING: [u8; 6] = [0, 1, 2, 3, 4, 5];
+
+/// From the chain's order to 0 1 2 3 4 5, without records, with the chain, and
+/// with the chain and a root to its top alone, which every swap then leaves
+/// standing in its full table: the first swap tells the plans apart.
 fn each_plan_its_own_pair() -> Vec<Case> {
-    let start = || alone(&[2, 1, 0, 5, 4, 3]);
-    let one = (&[0, 1, 2, 3, 4, 5][..], 1);
-    let both = |plan, name, level, after: [u8; 6]| {
+    let one = (&RISING[..], 1);
+    let all = (&RISING[..], LARGEST);
+    let of_one_root = |order| chain_of(order, &[2]);
+    let start = || of_one_root(CHAIN_ORDER);
+    let each = |plan, name, level, after: [u8; 6]| {
         let no_room = stuck(0, 6, lack(level, 1, 0));
+        let (bare, bare_after) = (alone(&CHAIN_ORDER), alone(&after));
+        let (first, end) = (of_one_root(after), of_one_root(RISING));
         [
-            run_by(plan, name, start(), one, paused(1, 5), alone(&after)),
+            run_by(plan, name, bare, one, paused(1, 5), bare_after),
             run_by(plan, name, chain(), one, no_room, chain()),
+            run_by(plan, name, start(), one, paused(1, 5), first),
+            run_by(plan, name, start(), all, done(6), end),
         ]
     };
     [
-        both(0, "six, Bring Up", 1, [2, 0, 1, 5, 4, 3]),
-        both(1, "six, Sink Down", 3, [2, 1, 0, 4, 5, 3]),
-        both(2, "six, Lowest", 4, [2, 1, 0, 5, 3, 4]),
-        both(3, "six, Highest", 0, [1, 2, 0, 5, 4, 3]),
+        each(0, "six, Bring Up", 1, [2, 0, 1, 5, 4, 3]),
+        each(1, "six, Sink Down", 3, [2, 1, 0, 4, 5, 3]),
+        each(2, "six, Lowest", 4, [2, 1, 0, 5, 3, 4]),
+        each(3, "six, Highest", 0, [1, 2, 0, 5, 4, 3]),
+    ]
+    .concat()
+}
+
+/// The chain with roots to records 0 and 4: at any level but 3 a record dies, and
+/// there is room. Each plan comes to level 3 at last, after so many swaps.
+fn stuck_on_the_way() -> Vec<Case> {
+    let of_two_roots = |order| chain_of(order, &[2, 6]);
+    let stuck_after = |plan, name, swaps: u32, order: [u8; 6]| {
+        let answer = stuck(swaps, 6 - swaps as usize, lack(3, 1, 0));
+        let row = |budget| {
+            let (before, after) = (of_two_roots(CHAIN_ORDER), of_two_roots(order));
+            run_by(plan, name, before, (&RISING, budget), answer, after)
+        };
+        [row(LARGEST), row(swaps)]
+    };
+    [
+        stuck_after(0, "stuck, Bring Up", 4, [0, 1, 2, 5, 3, 4]),
+        stuck_after(1, "stuck, Sink Down", 0, CHAIN_ORDER),
+        stuck_after(2, "stuck, Lowest", 1, [2, 1, 0, 5, 3, 4]),
+        stuck_after(3, "stuck, Highest", 3, [0, 1, 2, 5, 4, 3]),
     ]
     .concat()
 }
 
 fn case_j() -> Vec<Case> {
     let no_room = stuck(0, 1, lack(0, 1, 0));
+    let named = b_both_named;
     vec![
         run("J, in A", a(), (&[1, 0], 0), paused(0, 1), a()),
-        run("J, in B", b(), (&[1, 0], 0), no_room, b()),
+        run("J, in B", b(), (&[1, 0], 0), paused(0, 1), b()),
+        run("J, both named", named(), (&[1, 0], 0), no_room, named()),
         run("J, A at its target", a(), (&[0, 1], 0), done(0), a()),
         run("J, B at its target", b(), (&[0, 1], 0), done(0), b()),
+        run(
+            "J, both named, at its target",
+            named(),
+            (&[0, 1], 0),
+            done(0),
+            named(),
+        ),
         run("B at its target", b(), (&[0, 1], LARGEST), done(0), b()),
     ]
 }
@@ -442,7 +599,7 @@ fn case_k() -> Vec<Case> {
 /// high X(1,1) is 1. Record 3: f00 0, f01 1, f10 0, f11 0. Low is 0, and high
 /// X(1,0) is the record just made. Record 7: f00 0, f01 1, f10 1, f11 0. Low
 /// X(0,1) is new, in record 4, and high X(1,0) is record 1 again. No record 2
-/// and no record 6 is named any more.
+/// and no record 6 is named any more: they die, and no new record takes them.
 fn shared_lower_records() -> Vec<Case> {
     let before = [
         used(2, 1, 4),
@@ -464,34 +621,150 @@ fn shared_lower_records() -> Vec<Case> {
         FREE,
         used(0, 6, 3),
     ];
-    let (before_order, after_order) = ([1, 2, 0], [1, 0, 2]);
     let roots = [7, 9];
-    let crowded = || {
-        let records = [
-            used(2, 1, 3),
-            used(0, 0, 1),
-            used(2, 3, 0),
-            FREE,
-            used(1, 2, 4),
-            used(0, 1, 0),
-            used(2, 3, 7),
-        ];
-        input(&records, &[6, 8], &before_order)
-    };
+    let mut cases = vec![swap(
+        "shared lower records",
+        input(&before, &roots, &[1, 2, 0]),
+        1,
+        Answer::Made,
+        input(&after, &roots, &[1, 0, 2]),
+    )];
+    cases.extend(shared_with_one_free());
+    cases.extend(shared_with_none_free());
+    cases
+}
+
+/// The same with one free record fewer. X(1,0) takes record 3, which is free,
+/// and X(0,1) record 1, the lower of the two that die; record 5 becomes free.
+/// Where roots name these two, there is room for one only.
+fn shared_with_one_free() -> Vec<Case> {
+    let before = [
+        used(2, 1, 3),
+        used(0, 0, 1),
+        used(2, 3, 0),
+        FREE,
+        used(1, 2, 4),
+        used(0, 1, 0),
+        used(2, 3, 7),
+    ];
+    let after = [
+        used(0, 5, 1),
+        used(2, 0, 1),
+        used(0, 0, 5),
+        used(2, 1, 0),
+        used(1, 2, 4),
+        FREE,
+        used(0, 3, 5),
+    ];
+    let named = || input(&before, &[6, 3, 8, 7], &[1, 2, 0]);
     vec![
         swap(
-            "shared lower records",
-            input(&before, &roots, &before_order),
+            "shared lower records, one free",
+            input(&before, &[6, 8], &[1, 2, 0]),
             1,
             Answer::Made,
-            input(&after, &roots, &after_order),
+            input(&after, &[6, 8], &[1, 0, 2]),
         ),
         swap(
             "shared lower records, no room",
-            crowded(),
+            named(),
             1,
             Answer::NoRoom(lack(1, 2, 1)),
-            crowded(),
+            named(),
+        ),
+    ]
+}
+
+/// The same with no free record. X(1,0) takes record 1, and X(0,1) record 4.
+/// Where a root names record 1, only record 4 dies: one record is missing. With
+/// that one, record 6, X(1,0) takes it, X(0,1) takes record 4, and none is free
+/// then.
+fn shared_with_none_free() -> Vec<Case> {
+    let before = [
+        used(2, 1, 3),
+        used(0, 0, 1),
+        used(2, 3, 0),
+        used(1, 2, 4),
+        used(0, 1, 0),
+        used(2, 3, 6),
+    ];
+    let after = [
+        used(0, 3, 1),
+        used(2, 1, 0),
+        used(0, 0, 3),
+        used(1, 2, 4),
+        used(2, 0, 1),
+        used(0, 6, 3),
+    ];
+    let exactly = [&before[..], &[FREE]].concat();
+    let exactly_after = [
+        used(0, 8, 1),
+        used(0, 0, 1),
+        used(0, 0, 8),
+        used(1, 2, 4),
+        used(2, 0, 1),
+        used(0, 6, 8),
+        used(2, 1, 0),
+    ];
+    let named = || input(&before, &[5, 7, 3], &[1, 2, 0]);
+    vec![
+        swap(
+            "shared lower records, none free",
+            input(&before, &[5, 7], &[1, 2, 0]),
+            1,
+            Answer::Made,
+            input(&after, &[5, 7], &[1, 0, 2]),
+        ),
+        swap(
+            "shared lower records, one missing",
+            named(),
+            1,
+            Answer::NoRoom(lack(1, 2, 0)),
+            named(),
+        ),
+        swap(
+            "shared lower records, just enough",
+            input(&exactly, &[5, 7, 3], &[1, 2, 0]),
+            1,
+            Answer::Made,
+            input(&exactly_after, &[5, 7, 3], &[1, 0, 2]),
+        ),
+    ]
+}
+
+/// Levels 1 and 2 of three, variables 1 and 2. Record 1 crosses and needs
+/// X(0,1). Record 2 stands above both levels: where it names record 0 too, that
+/// one doesn't die; where it names record 1 alone, it does.
+fn named_from_above() -> Vec<Case> {
+    let below = [used(2, 0, 1), used(1, 0, 2)];
+    let both = [&below[..], &[used(0, 2, 3)]].concat();
+    let both_with_free = [&both[..], &[FREE]].concat();
+    let both_after = [used(2, 0, 1), used(2, 0, 5), used(0, 2, 3), used(1, 0, 1)];
+    let one = [&below[..], &[used(0, 0, 3)]].concat();
+    let one_after = [used(1, 0, 1), used(2, 0, 2), used(0, 0, 3)];
+    let before = |records: &[Bytes]| input(records, &[4], &[0, 1, 2]);
+    let after = |records: &[Bytes]| input(records, &[4], &[0, 2, 1]);
+    vec![
+        swap(
+            "named from above, no room",
+            before(&both),
+            1,
+            Answer::NoRoom(lack(1, 1, 0)),
+            before(&both),
+        ),
+        swap(
+            "named from above, one free",
+            before(&both_with_free),
+            1,
+            Answer::Made,
+            after(&both_after),
+        ),
+        swap(
+            "not named from above",
+            before(&one),
+            1,
+            Answer::Made,
+            after(&one_after),
         ),
     ]
 }
@@ -622,7 +895,7 @@ fn refused_plan(plan: u32) -> Vec<Case> {
     let repeating = input(&[A_0, A_0], &[2, 3], order);
     vec![
         row("no such plan", a(), to, no_such_plan),
-        row("no such plan, no room", b(), to, no_such_plan),
+        row("no such plan, no room", b_both_named(), to, no_such_plan),
         row("no such plan, at the target", a(), order, no_such_plan),
         row("1 and 13", a(), &[0], refused(1, 0)),
         row("2 and 13", alone(&[0, 0]), to, refused(2, 1)),

@@ -1,6 +1,6 @@
 //! One swap, its steps in the order of docs/RULES.md, 4.
 
-use std::collections::HashMap;
+use std::collections::{HashMap, HashSet};
 
 use crate::input::Input;
 use crate::layout::{Record, RecordNumber, Reference, Store, Variable};
@@ -11,7 +11,10 @@ pub struct Swap {
     pub crossing: usize,
     /// The number of new records.
     pub needed: usize,
-    /// The number of records that died.
+    /// The number of records that died: those that a new record took, and
+    /// those that became free.
+    pub dying: usize,
+    pub taken: usize,
     pub freed: usize,
 }
 
@@ -32,43 +35,32 @@ pub fn swap(before: &Input, k: usize) -> Result<Swap, Lack> {
         y: before.variable_at(k + 1),
     };
     let crossing = pair.crossing_records();
-    let mut lower = Lower::with_those_that_stay(pair);
+    let free = before.free_numbers();
+    let dying = pair.dying_records();
+    let mut lower = Lower::with_those_that_stay(pair, [&free[..], &dying].concat());
+    let rewritten = pair.rewritten(&crossing, &mut lower);
 
-    // What the crossing records become; new records are made inside X.
-    let mut rewritten = Vec::new();
-    for &(number, record) in &crossing {
-        let [f00, f01] = pair.grandchildren(record.low);
-        let [f10, f11] = pair.grandchildren(record.high);
-        let low = lower.x(f00, f10);
-        let high = lower.x(f01, f11);
-        let rewritten_as = Record {
-            variable: pair.y,
-            low,
-            high,
-        };
-        rewritten.push((number, rewritten_as));
-    }
-
-    // Is there room?
+    // Is there room for what is used afterwards?
     let needed = lower.made.len();
-    let free = lower.free.len();
-    if needed > free {
+    let used_after = pair.store.used().count() + needed - dying.len();
+    if used_after > pair.store.record_count() {
         return Err(Lack {
             level: k,
             needed,
-            free,
+            free: free.len(),
         });
     }
+
+    // What dies goes before anything is written: a new record may stand there.
     let mut after = before.clone();
+    for &number in &dying {
+        after.set_free(number);
+    }
     for &(number, record) in rewritten.iter().chain(&lower.made) {
         after.set_record(number, record);
     }
-
-    // What dies.
-    let dead = no_longer_named(&pair.y_records(), after.store());
-    for &number in &dead {
-        after.set_free(number);
-    }
+    let is_taken = |&&number: &&RecordNumber| !after.store().is_free(number);
+    let taken = dying.iter().filter(is_taken).count();
 
     // The order.
     after.order.swap(k, k + 1);
@@ -76,7 +68,9 @@ pub fn swap(before: &Input, k: usize) -> Result<Swap, Lack> {
         after,
         crossing: crossing.len(),
         needed,
-        freed: dead.len(),
+        dying: dying.len(),
+        taken,
+        freed: dying.len() - taken,
     })
 }
 
@@ -122,12 +116,48 @@ impl Pair<'_> {
         }
     }
 
-    fn y_records(self) -> Vec<RecordNumber> {
+    /// What the crossing records become; new records are made inside X.
+    fn rewritten(
+        self,
+        crossing: &[(RecordNumber, Record)],
+        lower: &mut Lower,
+    ) -> Vec<(RecordNumber, Record)> {
+        let mut rewritten = Vec::new();
+        for &(number, record) in crossing {
+            let [f00, f01] = self.grandchildren(record.low);
+            let [f10, f11] = self.grandchildren(record.high);
+            let low = lower.x(f00, f10);
+            let high = lower.x(f01, f11);
+            let rewritten_as = Record {
+                variable: self.y,
+                low,
+                high,
+            };
+            rewritten.push((number, rewritten_as));
+        }
+        rewritten
+    }
+
+    /// The records of y that only crossing ones name: these let go of them, and
+    /// what is made names none. From the lowest record number upwards.
+    fn dying_records(self) -> Vec<RecordNumber> {
+        let named = self.named_by_what_stays();
         self.store
             .used()
-            .filter(|(_, record)| record.variable == self.y)
+            .filter(|(number, record)| record.variable == self.y && !named.contains(number))
             .map(|(number, _)| number)
             .collect()
+    }
+
+    /// The records that a root names, or a used record that doesn't cross.
+    fn named_by_what_stays(self) -> HashSet<RecordNumber> {
+        let by_roots = self.store.roots().filter_map(Reference::record);
+        let by_records = self
+            .store
+            .used()
+            .filter(|&(_, record)| !self.crosses(record))
+            .flat_map(|(_, record)| record.child_records());
+        by_roots.chain(by_records).collect()
     }
 }
 
@@ -136,14 +166,15 @@ struct Lower {
     variable: Variable,
     known: HashMap<Record, Reference>,
     made: Vec<(RecordNumber, Record)>,
-    /// The free records before the swap, lowest number first.
-    free: Vec<RecordNumber>,
+    /// What new records take, one after the other: the free records before the
+    /// swap, then those that die, lowest number first in each.
+    places: Vec<RecordNumber>,
     record_count: usize,
 }
 
 impl Lower {
     /// The records of x that don't cross stay as they are.
-    fn with_those_that_stay(pair: Pair) -> Lower {
+    fn with_those_that_stay(pair: Pair, places: Vec<RecordNumber>) -> Lower {
         let known = pair
             .store
             .used()
@@ -154,13 +185,13 @@ impl Lower {
             variable: pair.x,
             known,
             made: Vec::new(),
-            free: pair.store.free().collect(),
+            places,
             record_count: pair.store.record_count(),
         }
     }
 
     /// X(a, b): where a and b differ it is the record of x with these two as
-    /// children, and only one that isn't known is made, in the next free record.
+    /// children, and only one that isn't known is made, in the next place.
     fn x(&mut self, a: Reference, b: Reference) -> Reference {
         if a == b {
             return a;
@@ -179,22 +210,14 @@ impl Lower {
         Reference::to(number)
     }
 
-    /// Each new record takes the next free one. Where none is left, a number
-    /// past the table stands in, so that the counting of needed goes on; such
-    /// a swap has no room and is not made.
+    /// Each new record takes the next place. Where none is left, a number past
+    /// the table stands in, so that the counting of needed goes on; such a swap
+    /// has no room and is not made.
     fn next_number(&self) -> RecordNumber {
         let taken = self.made.len();
-        match self.free.get(taken) {
+        match self.places.get(taken) {
             Some(&number) => number,
             None => RecordNumber(self.record_count + taken),
         }
     }
-}
-
-/// The old records of y that nothing names after the swap.
-fn no_longer_named(y_records: &[RecordNumber], after: Store) -> Vec<RecordNumber> {
-    let named = after.named();
-    let mut dead = y_records.to_vec();
-    dead.retain(|number| !named.contains(number));
-    dead
 }

@@ -1,7 +1,8 @@
 //! Files of the program made by hand, with the whole text that it prints for
 //! them. Neither is taken from the model.
 
-use crate::by_hand::{chain, A_0, A_1, FREE};
+use crate::by_hand::{chain, chain_of, used, A_0, A_1, FREE};
+use crate::input::Input;
 use crate::printed::Files;
 
 pub fn cases() -> Vec<(Files, String)> {
@@ -32,11 +33,23 @@ fn a(roots: &[u8], target: &[u8]) -> Files {
     files(&[A_0, A_1, FREE].concat(), roots, &[0, 1], target)
 }
 
-fn b() -> Files {
-    files(&[A_0, A_1].concat(), &[3, 0], &[0, 1], &[1, 0])
+/// The table of case B, from order 0 1 to 1 0.
+fn b(roots: &[u8]) -> Files {
+    files(&[A_0, A_1].concat(), roots, &[0, 1], &[1, 0])
 }
 
-/// A, B, C and G of the bench sheet, with the text after the plan's line.
+/// B with a root to each record: the lower one doesn't die.
+fn b_both_named() -> Files {
+    b(&[3, 0, 2, 0])
+}
+
+/// F with one free record fewer.
+fn f() -> Files {
+    let table = [used(1, 0, 1), used(1, 1, 0), used(0, 2, 3), FREE];
+    files(&table.concat(), &[4, 0], &[0, 1], &[1, 0])
+}
+
+/// A, B, C, F and G of the bench sheet, with the text after the plan's line.
 fn not_refused() -> Vec<(Files, &'static str)> {
     let only_orders = [None, None, Some(vec![0, 1, 2]), Some(vec![2, 1, 0]), None];
     vec![
@@ -49,13 +62,21 @@ fn not_refused() -> Vec<(Files, &'static str)> {
             "done swaps 0 left 0\norder 0 1\n0 1 0 1\n1 0 0 2\n2 free\nroots 3\n",
         ),
         (
-            b(),
+            b(&[3, 0]),
+            "done swaps 1 left 0\norder 1 0\n0 0 0 1\n1 1 0 2\nroots 3\n",
+        ),
+        (
+            b_both_named(),
             "no room swaps 0 left 1 level 0 needed 1 free 0\n\
-             order 0 1\n0 1 0 1\n1 0 0 2\nroots 3\n",
+             order 0 1\n0 1 0 1\n1 0 0 2\nroots 3 2\n",
         ),
         (
             a(&[3, 0, 2, 0], &[1, 0]),
             "done swaps 1 left 0\norder 1 0\n0 1 0 1\n1 1 0 4\n2 0 0 1\nroots 3 2\n",
+        ),
+        (
+            f(),
+            "done swaps 1 left 0\norder 1 0\n0 0 1 0\n1 free\n2 1 5 2\n3 0 0 1\nroots 4\n",
         ),
         (only_orders, "done swaps 3 left 0\norder 2 1 0\nroots\n"),
     ]
@@ -68,20 +89,56 @@ fn by_every_plan((files, text): (Files, &str)) -> Vec<(Files, String)> {
     (0..4).map(by).chain([missing]).collect()
 }
 
-/// Each plan is stuck at a level of its own.
+/// With a root to each record each plan is stuck at a level of its own; with
+/// roots to records 0 and 4 it is stuck at level 3, sooner or later; with a root
+/// to the top alone it comes to the end.
 fn chain_by_each_plan() -> Vec<(Files, String)> {
-    let chain = chain();
+    let start = [2, 1, 0, 5, 4, 3];
+    let rising = [0, 1, 2, 3, 4, 5];
+    let stuck_at_once = |(plan, level)| {
+        let answer = format!("no room swaps 0 left 6 level {level} needed 1 free 0");
+        let listed = listed_chain(start, "2 3 4 5 6 7");
+        of_chain(&chain(), plan, &answer, &listed)
+    };
+    let stuck_later = |(plan, swaps, order)| {
+        let left = 6 - swaps;
+        let answer = format!("no room swaps {swaps} left {left} level 3 needed 1 free 0");
+        let listed = listed_chain(order, "2 6");
+        of_chain(&chain_of(start, &[2, 6]), plan, &answer, &listed)
+    };
+    let done = |plan| {
+        let listed = listed_chain(rising, "2");
+        of_chain(&chain_of(start, &[2]), plan, "done swaps 6 left 0", &listed)
+    };
+    let later = [
+        (0, 4, [0, 1, 2, 5, 3, 4]),
+        (1, 0, start),
+        (2, 1, [2, 1, 0, 5, 3, 4]),
+        (3, 3, [0, 1, 2, 5, 4, 3]),
+    ];
+    [
+        [(0, 1), (1, 3), (2, 4), (3, 0)].map(stuck_at_once),
+        later.map(stuck_later),
+        [0, 1, 2, 3].map(done),
+    ]
+    .concat()
+}
+
+/// The chain by this plan, on the way to 0 1 2 3 4 5.
+fn of_chain(chain: &Input, plan: u8, answer: &str, listed: &str) -> (Files, String) {
     let target = [0, 1, 2, 3, 4, 5];
     let files = files(&chain.table, &chain.roots, &chain.order, &target);
-    let by = |(plan, level)| {
-        let text = format!(
-            "plan {plan}\nno room swaps 0 left 6 level {level} needed 1 free 0\n\
-             order 2 1 0 5 4 3\n0 2 0 3\n1 1 0 4\n2 0 0 5\n3 5 0 6\n4 4 0 7\n5 3 0 1\n\
-             roots 2 3 4 5 6 7\n"
-        );
-        (with_plan(&files, &[plan]), text)
-    };
-    [(0, 1), (1, 3), (2, 4), (3, 0)].map(by).to_vec()
+    let text = format!("plan {plan}\n{answer}\n{listed}");
+    (with_plan(&files, &[plan]), text)
+}
+
+/// Record i of the chain stands at level i.
+fn listed_chain([a, b, c, d, e, f]: [u8; 6], roots: &str) -> String {
+    format!(
+        "order {a} {b} {c} {d} {e} {f}\n\
+         0 {a} 0 3\n1 {b} 0 4\n2 {c} 0 5\n3 {d} 0 6\n4 {e} 0 7\n5 {f} 0 1\n\
+         roots {roots}\n"
+    )
 }
 
 /// No files, and A spoilt.
@@ -114,7 +171,7 @@ fn bad_plans() -> Vec<(Files, String)> {
         (&[4, 4], 0),
         (&[3; 5_000], 0),
     ];
-    let stores = [a(&[3, 0], &[1, 0]), a(&[3, 0], &[0, 1]), b()];
+    let stores = [a(&[3, 0], &[1, 0]), a(&[3, 0], &[0, 1]), b_both_named()];
     let with = |files: &Files| {
         plans.map(|(plan, place)| {
             (

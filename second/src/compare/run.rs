@@ -38,10 +38,15 @@ pub fn compare(count: u64) -> Result<Tally, String> {
         .line("no room after some swaps", FEWEST_OF_EACH_ANSWER)
         .line("no room with the budget just spent", FEWEST_OF_EACH_ANSWER)
         .line("no room with budget 0", FEWEST_OF_EACH_ANSWER)
+        .line(TAKES_DYING, FEWEST)
+        .line(&after_dying("done"), FEWEST_OF_EACH_ANSWER)
+        .line(&after_dying("paused"), FEWEST_OF_EACH_ANSWER)
+        .line(&after_dying("no room"), FEWEST_OF_EACH_ANSWER)
         .line("not refused, with 4,096 records", 20)
         .refusals(&[1, 2, 3, 4, 5, 6, 7, 8, 9, 13], FEWEST_OF_EACH_ANSWER)
         .line(LOWER_REFUSAL, FEWEST_OF_EACH_ANSWER)
-        .line("swaps in all", 50_000);
+        .line("swaps in all", 50_000)
+        .line(SWAPS_THAT_TAKE_DYING, FEWEST);
     let tally = counts_kept_lines(tally, &KEPT, &["done", "paused", "no room", "refused"]);
     let tally = PLANS.iter().fold(tally, |tally, plan| {
         let of_plan = |what| of_plan(plan, what);
@@ -53,6 +58,13 @@ pub fn compare(count: u64) -> Result<Tally, String> {
             .line(&of_plan(ITS_OWN), FEWEST_OF_EACH_ANSWER)
     });
     random_questions(tally, FIRST_SEED, count, one)
+}
+
+const TAKES_DYING: &str = "a dying record taken";
+const SWAPS_THAT_TAKE_DYING: &str = "swaps that take a dying record";
+
+fn after_dying(answer: &str) -> String {
+    format!("{answer}, a dying record taken")
 }
 
 const LOWER_REFUSAL: &str = "refused 1 to 9, with no such plan besides";
@@ -90,7 +102,8 @@ fn one(random: &mut Random, tally: &mut Tally) -> Result<(), String> {
     }
     let plan = plan(job.plan).expect("no other number is a plan's");
     count(&job, plan, budget, answer, tally);
-    keeps(&job, plan, answer, &after, random)?;
+    let took_dying = keeps(&job, plan, answer, &after, random)?;
+    count_dying(took_dying, answer, tally);
     in_slices(&job, budget, answer, &after, random)
 }
 
@@ -111,19 +124,28 @@ impl Job {
     }
 }
 
+/// How many of its swaps took a dying record.
 fn keeps(
     job: &Job,
     plan: &Plan,
     answer: Answer,
     after: &Input,
     random: &mut Random,
-) -> Result<(), String> {
+) -> Result<usize, String> {
     let swaps = swaps(answer);
-    run_keeps(&job.before, &job.target, plan, swaps, after, random)?;
-    match answer {
-        Answer::Stuck { lack, .. } => no_room_keeps(after, lack, random),
-        _ => Ok(()),
+    let took_dying = run_keeps(&job.before, &job.target, plan, swaps, after, random)?;
+    if let Answer::Stuck { lack, .. } = answer {
+        no_room_keeps(after, lack, random)?;
     }
+    Ok(took_dying)
+}
+
+fn count_dying(swaps: usize, answer: Answer, tally: &mut Tally) {
+    for _ in 0..swaps {
+        tally.count(SWAPS_THAT_TAKE_DYING);
+    }
+    tally.count_if(swaps > 0, TAKES_DYING);
+    tally.count_if(swaps > 0, &after_dying(&name(answer)));
 }
 
 /// The same run in slices: their swaps add up, the last answer agrees in all

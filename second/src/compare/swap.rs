@@ -8,18 +8,19 @@ use super::{
 use crate::generate::{accepted, big, busy, with_free};
 use crate::input::Input;
 use crate::kept::{no_room_keeps, swap_keeps};
-use crate::layout::MOST_RECORDS;
+use crate::layout::{Reference, MOST_RECORDS, MOST_ROOTS};
 use crate::model::{answer, Answer, Question};
 use crate::random::Random;
 use crate::sample::sample;
-use crate::swap::{swap, Swap};
+use crate::swap::{swap, Lack, Swap};
 use crate::tally::Tally;
 
 pub const QUESTIONS: u64 = 30_000;
 const FIRST_SEED: u64 = 20_500_000;
 const FEWEST: usize = 1_000;
+const FEWEST_FULL_TAKEN: usize = 20;
 const KEPT: KeptCounts = KeptCounts {
-    once_in: 20,
+    once_in: 16,
     fewest: 1_000,
 };
 
@@ -29,14 +30,29 @@ pub fn compare(count: u64) -> Result<Tally, String> {
         .line("made with crossing records", FEWEST)
         .line("made with new records", FEWEST)
         .line("made with dying records", FEWEST)
-        .line("made with all free records taken", FEWEST_OF_EACH_ANSWER)
+        .line(A_DYING_TAKEN, FEWEST)
+        .line(NONE_FREE, FEWEST_OF_EACH_ANSWER)
+        .line(SOME_TAKEN, FEWEST_OF_EACH_ANSWER)
+        .line(JUST_THE_FREE, FEWEST_OF_EACH_ANSWER)
+        .line(JUST_ONE_DYING, FEWEST_OF_EACH_ANSWER)
+        .line(ALL_TAKEN, FEWEST_OF_EACH_ANSWER)
         .line("no room", FEWEST)
         .line("no room for a single record", FEWEST_OF_EACH_ANSWER)
+        .line("no room, some free and some dying", FEWEST_OF_EACH_ANSWER)
         .line("not refused, with 4,096 records", FEWEST_OF_EACH_ANSWER)
+        .line(FULL_TAKEN, FEWEST_FULL_TAKEN)
         .refusals(&[1, 2, 4, 5, 6, 7, 8, 9, 12], FEWEST_OF_EACH_ANSWER);
     let tally = counts_kept_lines(tally, &KEPT, &["made", "no room", "refused"]);
     random_questions(tally, FIRST_SEED, count, one)
 }
+
+const A_DYING_TAKEN: &str = "made with a dying record taken";
+const NONE_FREE: &str = "made with dying records only";
+const SOME_TAKEN: &str = "made with some dying taken, some freed";
+const JUST_THE_FREE: &str = "made with all free taken, no dying one";
+const JUST_ONE_DYING: &str = "made with all free taken, one dying of some";
+const ALL_TAKEN: &str = "made with all free and all dying taken";
+const FULL_TAKEN: &str = "a dying record taken, with 4,096 records";
 
 fn one(random: &mut Random, tally: &mut Tally) -> Result<(), String> {
     let before = match random.below(100) {
@@ -63,22 +79,42 @@ fn one(random: &mut Random, tally: &mut Tally) -> Result<(), String> {
     tally.count_if(full, "not refused, with 4,096 records");
     match swap(&before, level as usize) {
         Ok(made) => {
-            count(&before, &made, tally);
+            count_made(&before, &made, tally);
             swap_keeps(&before, &made, random)
         }
         Err(lack) => {
-            tally.count_if(lack.needed == lack.free + 1, "no room for a single record");
+            count_no_room(&before, lack, tally);
             no_room_keeps(&before, lack, random)
         }
     }
 }
 
-fn count(before: &Input, made: &Swap, tally: &mut Tally) {
+fn count_made(before: &Input, made: &Swap, tally: &mut Tally) {
+    let free = before.free_numbers().len();
+    let full = before.store().record_count() == MOST_RECORDS;
+    let dies = made.dying > 0;
+    let takes_dying = made.taken > 0;
     tally.count_if(made.crossing > 0, "made with crossing records");
     tally.count_if(made.needed > 0, "made with new records");
-    tally.count_if(made.freed > 0, "made with dying records");
-    let all_taken = made.needed > 0 && made.needed == before.free_numbers().len();
-    tally.count_if(all_taken, "made with all free records taken");
+    tally.count_if(dies, "made with dying records");
+    tally.count_if(takes_dying, A_DYING_TAKEN);
+    tally.count_if(takes_dying && free == 0, NONE_FREE);
+    tally.count_if(takes_dying && made.freed > 0, SOME_TAKEN);
+    tally.count_if(dies && free > 0 && made.needed == free, JUST_THE_FREE);
+    tally.count_if(
+        free > 0 && made.taken == 1 && made.freed > 0,
+        JUST_ONE_DYING,
+    );
+    tally.count_if(takes_dying && free > 0 && made.freed == 0, ALL_TAKEN);
+    tally.count_if(takes_dying && full, FULL_TAKEN);
+}
+
+fn count_no_room(before: &Input, lack: Lack, tally: &mut Tally) {
+    let Asked { needed, dying } = asked(before, lack.level);
+    let for_one = needed == lack.free + dying + 1;
+    tally.count_if(for_one, "no room for a single record");
+    let some = lack.free > 0 && dying > 0;
+    tally.count_if(some, "no room, some free and some dying");
 }
 
 /// Mostly the upper level of a pair; otherwise n-1, n or more.
@@ -90,24 +126,60 @@ fn random_level(n: usize, random: &mut Random) -> u32 {
     }
 }
 
-/// The input with just as many free records as the swap needs, or one fewer,
-/// or one more. One that is refused, or would be too long, stays as it is.
+/// The input with just as many free records as the swap needs, or as it needs
+/// besides the dying ones, or a number between these; or one fewer, or one more.
+/// One that is refused, or would be too long, stays as it is.
 fn tightened(input: Input, level: u32, random: &mut Random) -> Input {
-    let Some(needed) = needed(&input, level) else {
+    if let Answer::Refused(_) = answer(&mut input.clone(), &Question::Swap { level }) {
         return input;
+    }
+    let input = if random.coin() {
+        with_lower_named(input, level, random)
+    } else {
+        input
     };
-    let free = (needed + random.below(3)).saturating_sub(1);
+    let Asked { needed, dying } = asked(&input, level as usize);
+    let fewest = needed.saturating_sub(dying);
+    let near = match random.below(5) {
+        0 => needed,
+        1..=3 => fewest,
+        _ => random.between(fewest, needed),
+    };
+    let one_fewer = near.saturating_sub(1);
+    let free = [one_fewer, one_fewer, near, near, near + 1][random.below(5)];
     if input.used_numbers().len() + free > MOST_RECORDS {
         return input;
     }
     with_free(&input, free, random)
 }
 
-/// How many records the swap needs; none where it is refused.
-fn needed(input: &Input, level: u32) -> Option<usize> {
-    match answer(&mut input.clone(), &Question::Swap { level }) {
-        Answer::Refused(_) => None,
-        Answer::NoRoom(lack) => Some(lack.needed),
-        _ => swap(input, level as usize).ok().map(|made| made.needed),
+/// Some records of the lower level have a root more, so that they don't die: as
+/// many as there is room for at most.
+fn with_lower_named(mut input: Input, level: u32, random: &mut Random) -> Input {
+    let mut lower = input.used_numbers();
+    lower.retain(|&number| input.level_of(number) == Some(level as usize + 1));
+    let mut roots = input.root_list();
+    random.shuffle(&mut lower);
+    lower.truncate(random.between(0, MOST_ROOTS - roots.len()));
+    roots.extend(lower.into_iter().map(Reference::to));
+    input.set_roots(&roots);
+    input
+}
+
+/// What a swap that isn't refused asks of its table.
+struct Asked {
+    needed: usize,
+    dying: usize,
+}
+
+/// Found where there is room in any case: a used record needs two at most.
+fn asked(input: &Input, level: usize) -> Asked {
+    let more = 2 * input.used_numbers().len();
+    let Ok(made) = swap(&input.with_more_free(more), level) else {
+        panic!("no swap needs more than {more} records");
+    };
+    Asked {
+        needed: made.needed,
+        dying: made.dying,
     }
 }
