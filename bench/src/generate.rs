@@ -63,6 +63,8 @@ pub fn full(seed: u64, most: usize) -> Case {
         reversed(larger).is_some()
     });
     let (before, after, swaps) = reversed(&diagram).expect("what fits is reversed");
+    let unused = RECORDS - most_used(&before, &target);
+    assert!(unused <= 1, "the tightest swap leaves {unused} records");
     let smaller = diagram.roots.len() - of_most;
     Case {
         name: format!("{of_most} roots of {most} inputs and {smaller} of fewer"),
@@ -71,6 +73,17 @@ pub fn full(seed: u64, most: usize) -> Case {
         target,
         swaps,
     }
+}
+
+/// The most records used before, between and after the swaps of the reversal. A
+/// swap has room where those used after it fit, so the tightest leaves most used.
+fn most_used(before: &Buffers, target: &[u8]) -> usize {
+    let mut buffers = before.clone();
+    let mut most = buffers.used();
+    while let Answer::Paused { .. } = ordinary::run(&mut buffers, target, PLAN, 1) {
+        most = most.max(buffers.used());
+    }
+    most.max(buffers.used())
 }
 
 /// A table with its roots and order, and the order to bring it to.

@@ -1,7 +1,8 @@
 //! The ordinary program: the same answers and bytes as the library's, with
 //! what the standard library offers. Records are a Vec, each variable has a
 //! list of its records, the lower records of a swap are found by a HashMap,
-//! the free records are a BTreeSet, and each record counts its names.
+//! the free records are a BTreeSet, and each record counts its names, which
+//! tells what dies in a swap.
 
 mod count;
 
@@ -317,7 +318,7 @@ struct Diagram {
     order: Vec<u8>,
 }
 
-/// A swap that fits, before anything is changed.
+/// A swap that has room, before anything is changed.
 struct Prepared {
     level: usize,
     crossing: Vec<u16>,
@@ -327,6 +328,10 @@ struct Prepared {
     children: Vec<(u16, u16)>,
     /// Low and high of each new record.
     made: Vec<(u16, u16)>,
+    /// The records of the lower variable that die in this swap.
+    dying: Vec<u16>,
+    /// The other records of the lower variable.
+    living: Vec<u16>,
 }
 
 impl Diagram {
@@ -399,20 +404,22 @@ impl Diagram {
         });
         let mut children = Vec::with_capacity(crossing.len());
         let mut made = Vec::new();
+        let (mut dying, mut living) = (Vec::new(), Vec::new());
         if !crossing.is_empty() {
+            (dying, living) = self.dying_and_living(&crossing, y);
             let mut lower = HashMap::with_capacity(upper.len() * 2);
             for &number in &staying {
                 let record = &self.records[number as usize];
                 lower.insert((record.low, record.high), number + 2);
             }
-            let mut supply = self.free.iter();
+            let mut supply = self.free.iter().chain(&dying);
             let mut find = |a: u16, b: u16| {
                 if a == b {
                     return a;
                 }
                 *lower.entry((a, b)).or_insert_with(|| {
                     made.push((a, b));
-                    // Without a free record the number is never used.
+                    // Without room the number is never used.
                     supply.next().map_or(0, |&number| number + 2)
                 })
             };
@@ -425,7 +432,7 @@ impl Diagram {
                 children.push((low, high));
             }
         }
-        if made.len() > self.free.len() {
+        if made.len() > self.free.len() + dying.len() {
             return Err(Lack {
                 level,
                 needed: made.len(),
@@ -438,7 +445,24 @@ impl Diagram {
             staying,
             children,
             made,
+            dying,
+            living,
         })
+    }
+
+    /// The records of y that die when these records cross, and those that don't;
+    /// both in rising number.
+    fn dying_and_living(&self, crossing: &[u16], y: u8) -> (Vec<u16>, Vec<u16>) {
+        // How many names each reference loses: a record that loses all of them
+        // dies. Only those of y are read; to count the others too is quicker.
+        let mut lost = vec![0_u16; self.records.len() + 2];
+        for &number in crossing {
+            let record = &self.records[number as usize];
+            lost[record.low as usize] += 1;
+            lost[record.high as usize] += 1;
+        }
+        let lower = self.lists[y as usize].iter();
+        lower.partition(|&&number| self.records[number as usize].names == lost[number as usize + 2])
     }
 
     fn commit(&mut self, swap: Prepared) {
@@ -449,10 +473,21 @@ impl Diagram {
             return;
         }
 
-        // New records take the free ones in rising number.
+        // All old references are let go first: a new record may take the place of
+        // one that has some, or that is named by some.
+        for &number in swap.crossing.iter().chain(&swap.dying) {
+            let record = self.records[number as usize];
+            self.unname(record.low);
+            self.unname(record.high);
+        }
+
+        // New records take the free records in rising number, then the dying ones.
+        // Only what none of them takes becomes free.
+        let mut dying = swap.dying.into_iter();
         let mut new = Vec::with_capacity(swap.made.len());
-        for &(low, high) in &swap.made {
-            let number = self.free.pop_first().expect("the swap fits");
+        for (low, high) in swap.made {
+            let number = self.free.pop_first().or_else(|| dying.next());
+            let number = number.expect("the swap has room");
             self.records[number as usize] = Record {
                 variable: x,
                 low,
@@ -463,26 +498,7 @@ impl Diagram {
             self.name(high);
             new.push(number);
         }
-        for (&number, &(low, high)) in swap.crossing.iter().zip(&swap.children) {
-            let record = &mut self.records[number as usize];
-            let before = (record.low, record.high);
-            record.variable = y;
-            record.low = low;
-            record.high = high;
-            self.unname(before.0);
-            self.unname(before.1);
-            self.name(low);
-            self.name(high);
-        }
-
-        let lower = std::mem::take(&mut self.lists[y as usize]);
-        let (named, idle): (Vec<u16>, Vec<u16>) = lower
-            .into_iter()
-            .partition(|&number| self.records[number as usize].names > 0);
-        for number in idle {
-            let record = self.records[number as usize];
-            self.unname(record.low);
-            self.unname(record.high);
+        for number in dying {
             self.records[number as usize] = Record {
                 variable: FREE,
                 low: 0,
@@ -491,8 +507,21 @@ impl Diagram {
             };
             self.free.insert(number);
         }
+
+        for (&number, &(low, high)) in swap.crossing.iter().zip(&swap.children) {
+            let record = &mut self.records[number as usize];
+            record.variable = y;
+            record.low = low;
+            record.high = high;
+            self.name(low);
+            self.name(high);
+        }
+
+        // Free records came first, then dying ones: two rising runs, which the
+        // stable sort merges.
+        new.sort();
         self.lists[x as usize] = merged(&swap.staying, &new);
-        self.lists[y as usize] = merged(&named, &swap.crossing);
+        self.lists[y as usize] = merged(&swap.living, &swap.crossing);
     }
 }
 

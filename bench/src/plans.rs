@@ -7,7 +7,7 @@ use crate::ordinary::Plan;
 
 const JOBS: u64 = 300;
 /// How full the tables are, in per cent.
-const FILLS: [usize; 3] = [80, 90, 95];
+const FILLS: [usize; 3] = [95, 98, 100];
 /// The most inputs of a root, by turns from job to job.
 const INPUTS: [usize; 4] = [5, 6, 7, 8];
 
