@@ -23,7 +23,7 @@
 #include <stddef.h>
 #include <stdint.h>
 
-#define RELAY_VERSION 3u
+#define RELAY_VERSION 4u
 
 /* Sizes and limits. */
 #define RELAY_RECORD_SIZE 8u
@@ -129,7 +129,7 @@ size_t relay_count(const uint8_t *table, size_t table_length,
 /* Swap a level and the one below it. A made swap changes `table` and `order`; any other answer leaves both
  * as they are. `answer` holds RELAY_SWAP_NUMBERS or more, whatever the answer will be.
  *   made:    RELAY_MADE
- *   no room: RELAY_NO_ROOM, the level, needed, free
+ *   no room: RELAY_NO_ROOM, the level, needed, free; more records are needed than are free or die in this swap
  *   refused: the refusal's number (1, 2, 4 to 9, 12), its place
  */
 size_t relay_swap(uint8_t *table, size_t table_length,

@@ -31,7 +31,8 @@ use Rattle.reading.specs.Theorems.{Reads}
 use Rattle.reading.specs.declared.ReadAnswer.{ReadAnswer}
 use Rattle.reading.specs.declared.ReadAnswer.the-variants as reads
 use Rattle.swap_rules.specs.Swap.{xAt, yAt}
-use Rattle.swaps.specs.Outcome.{freeIn, lack, isClear, swapStages, swapOf, SwapOutcome}
+use Rattle.swap_preparing.specs.Table.{freeIn}
+use Rattle.swaps.specs.Outcome.{lack, isClear, swapStages, swapOf, SwapOutcome}
 use Rattle.swaps.specs.Entry as swap
 use Rattle.swaps.specs.Entry.{Needed, Dying}
 use Rattle.swaps.specs.Bytes.{outnumbers, lacks-slots}

@@ -19,7 +19,8 @@ use Rattle.lists.specs.Says.{Says}
 use Rattle.reading.specs.Read.{readOf}
 use Rattle.swap_rules.specs.Swap.{xAt, yAt, crosses}
 use Rattle.swap_rules.specs.Theorem.{Cofactors}
-use Rattle.swaps.specs.Outcome.{neededIn, dyingIn, swapOf}
+use Rattle.swap_preparing.specs.Table.{neededIn, dyingIn}
+use Rattle.swaps.specs.Outcome.{swapOf}
 use Rattle.swaps.specs.Entry as swap
 use Rattle.swaps.specs.declared.SwapAnswer.the-variants.{Made}
 use Rattle.slices.specs.OneSwap.{plainSwap}

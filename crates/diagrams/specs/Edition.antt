@@ -154,10 +154,6 @@ module _ (E : Edition) where
   turned-node true v l h = refl
   turned-node false v l h = refl
 
-  pub turned-free : (s : Bool) → turned E s free ≡ free
-  turned-free true = refl
-  turned-free false = refl
-
   pub pick-invert : (s c : Bool) (l h : ℕ) → pick c (invert E s l) (invert E s h) ≡ invert E s (pick c l h)
   pick-invert s true l h = refl
   pick-invert s false l h = refl

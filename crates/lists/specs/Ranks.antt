@@ -1,17 +1,15 @@
 -- The indices that pass, by their ranks: each stands after as many as pass before it; and what a search among them finds.
 use Prim.Native.Nat.{ℕ, zero, suc, _≤_, _<_}
-use mathlib.Core.Bool.{Bool, true, false, cond, _&&_}
+use mathlib.Core.Bool.{Bool, true, cond, _&&_}
 use mathlib.Core.List.{[], _∷_, _++_}
 use mathlib.Core.Path.{_≡_, ap, sym, _∙_}
 use native.Mathlib.Nat.{not-suc-le-zero}
 use native.Mathlib.Omega.{arith}
 use lib.ListN.{length, getD, List·getD-append}
 use lib.Seq.{getD-at}
-use borrow.Author.Tests.{ne-eqb}
 use Rattle.lists.specs.First.{first, Passed, first-at, first-none, first-passed, first-holds}
 use Rattle.lists.specs.Count.{count}
 use Rattle.lists.specs.Mem.{at-mem, apart-at}
-use Rattle.lists.specs.Places.{placeIn, place-at}
 use Rattle.lists.specs.Says.{Says, says-and, says-itself, denies, either-side, true-false}
 use Rattle.lists.specs.Which.{which, which-mem, which-apart, which-length}
 
@@ -48,14 +46,6 @@ pub which-rank : (p : ℕ → Bool) (n k : ℕ) → k < length (which p n) → c
 which-rank p n k h =
     let r = which-at p n k h in
     apart-at (which p n) _ k 0 (which-apart p n) (which-below p n _ (r .0) (r .1)) h (which-getD p n _ (r .0) (r .1))
-
--- ---- where an index stands
-
-pub which-index : (p : ℕ → Bool) (n i : ℕ) → i < n → p i ≡ true → placeIn (which p n) i ≡ count p i
-which-index p n i h t = ap (placeIn (which p n)) (sym (which-getD p n i h t)) ∙ place-at (which p n) (which-apart p n) (count p i) (which-below p n i h t)
-
-pub which-absent : (p : ℕ → Bool) (n i : ℕ) → p i ≡ false → placeIn (which p n) i ≡ length (which p n)
-which-absent p n i f = first-none _ (length (which p n)) (record { at = λ j h. ne-eqb _ i (λ z. true-false (sym (which-at p n j h .1) ∙ ap p z ∙ f)) })
 
 -- ---- searching among the indices that pass is searching among all
 

@@ -28,7 +28,8 @@ use Rattle.checks.specs.Check.{used}
 use Rattle.swap_rules.specs.Record.{lowOf, highOf, isFreeNode, isOf, same}
 use Rattle.swap_rules.specs.Swap.{xAt, yAt, grandchild, f00, f01, f10, f11, crosses, asked, stands, isNew, wanted, news, stillNames, dies, slots, slotOf}
 use Rattle.swap_rules.specs.Swap.{dyingCount, X, becomes, needed, freeCount, usedCount, usedAfterwards, fits, slotIndex, filled, recordAfter, swapped}
-use Rattle.swaps.specs.Outcome.{neededIn, wayOf, lack, tableAfter}
+use Rattle.swap_preparing.specs.Table.{neededIn, tableAfter}
+use Rattle.swaps.specs.Outcome.{wayOf, lack}
 use Rattle.slice_rules.specs.Slices as over
 use Rattle.slice_rules.specs.Slices.{arrived, next, goes, made, leaves, slice}
 use Rattle.slices.specs.OneSwap.{plainSwap}
@@ -69,8 +70,8 @@ unfoldable pub outcome : Row → Outcome
 unfolding nodeAt decode eight encode rootsOf runOf runStages storeStages badRunSizes openedStages ranTo answerOf relay slice leaves over.judge made goes next
     arrived same? planOf noPlan differsAt bringUp firstDifference sinkDown lastDifference invertedAt lowestInversion highestInversion exchange left
     inverted pairs total first last count tabulate keep once each which look lowOf highOf isFreeNode isOf same grandchild f00 f01 f10 f11 crosses asked
-    stands isNew wanted news stillNames dies dyingCount slots slotOf X becomes needed freeCount usedCount usedAfterwards fits slotIndex filled recordAfter swapped
-    wayOf tableAfter
+    stands isNew wanted news stillNames dies dyingCount slots slotOf X becomes needed freeCount usedCount usedAfterwards fits slotIndex filled recordAfter
+    swapped wayOf tableAfter
 outcome row =
     let g = row .given in
     let k = planOf (g .plan) (g .order) (g .target) in

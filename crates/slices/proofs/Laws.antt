@@ -30,7 +30,8 @@ use Rattle.checks.specs.declared.Refusal.{Refusal}
 use Rattle.checks.specs.declared.Verdict.{Verdict}
 use Rattle.checks.specs.declared.Verdict.the-variants as verdict
 use Rattle.swap_rules.specs.Swap.{xAt, yAt}
-use Rattle.swaps.specs.Outcome.{wayOf, isClear, tableAfter, TableSwapped}
+use Rattle.swap_preparing.specs.Table.{tableAfter}
+use Rattle.swaps.specs.Outcome.{wayOf, isClear, TableSwapped}
 use Rattle.swaps.specs.declared.Lack.{Lack}
 use Rattle.swaps.specs.declared.Way.{Way}
 use Rattle.swaps.specs.declared.Way.the-variants as way

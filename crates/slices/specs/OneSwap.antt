@@ -17,6 +17,7 @@ use Rattle.checks.specs.Check.{orderStage, checkStages}
 use Rattle.checks.specs.Usable as checked
 use Rattle.checks.specs.Usable.{usable-then, all-pass, passes-all}
 use Rattle.swap_rules.specs.Swap.{xAt, yAt}
+use Rattle.swap_preparing.specs.Table as after
 use Rattle.swaps.specs.Outcome as outcome
 use Rattle.swaps.specs.Outcome.{Swapped, isClear, way-fits}
 use Rattle.swaps.specs.Bytes.{swap-usable, swap-root-value}
@@ -67,7 +68,7 @@ plainSwap = record {
   tableStages = check.tableStages;
   Usable = checked.Usable;
   wayOf = outcome.wayOf;
-  tableAfter = λ t r o k. outcome.tableAfter t r (xAt o k) (yAt o k);
+  tableAfter = λ t r o k. after.tableAfter t r (xAt o k) (yAt o k);
   swapOf = outcome.swapOf;
   rootValue = λ t r n inputs position. value (lookup t) inputs n (rootAt r position);
   usable-if = plain-usable;

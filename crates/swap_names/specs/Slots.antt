@@ -16,7 +16,7 @@ use Rattle.lists.specs.Truth.{clash, and-left}
 use Rattle.lists.specs.Which.{which, which-mem, which-apart, which-length, which-agrees}
 use Rattle.diagrams.specs.Edition.{plain}
 use Rattle.diagrams.specs.Layout.{mostRecords, records, isFree, isUsed}
-use Rattle.diagrams.specs.Node.{at, ref}
+use Rattle.diagrams.specs.Node.{at}
 use Rattle.diagrams.specs.Decode.{decode}
 use Rattle.diagrams.specs.Lookup.{rootsOf}
 use Rattle.check_sizes.specs.Sizes.{TableSizes}

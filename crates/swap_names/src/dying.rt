@@ -52,13 +52,7 @@ fn add_all(table: &[u8], y: Variable, names: &[u16], slots: &mut [u16], free: us
 
 // After the free records of the list go those that die: y records that neither a root nor a record that keeps its references names.
 // How many slots there are.
-pub fn add_dying(
-    table: &[u8],
-    roots: &[u8],
-    pair: Pair,
-    slots: &mut [u16],
-    free: usize,
-) -> usize
+pub fn add_dying(table: &[u8], roots: &[u8], pair: Pair, slots: &mut [u16], free: usize) -> usize
     requires { ⌜ TableSizes (now table) (now roots) × (RoomFor (now table) (now slots) × FreeListed (now table) (now slots) free) ⌝ }
     ensures { λ k. ⌜ SlotsListed (now (table .entry)) (now (roots .entry)) pair (now (slots .exit)) k ⌝ }
 {

@@ -14,7 +14,8 @@ use Rattle.diagrams.specs.declared.Reference.{Reference}
 use Rattle.swap_records.specs.Listed.{Inside, entries}
 use Rattle.swap_records.specs.Pairs.{putAt}
 use Rattle.swap_reckoning.specs.Searching.{News, matchesAt, newAt, notePair, slotAt, settledAt, Searchable, Noted}
-use Rattle.swap_reckoning.specs.Reckoned.{asks-low, asks-high, answered, turns-begin, turn-comes, turn-carried, turn-room, turn-asks, turn-keeps, turn-taken}
+use Rattle.swap_reckoning.specs.Reckoned.{asks-low, asks-high, answered}
+use Rattle.swap_reckoning.specs.Reckoned.{turns-begin, turn-comes, turn-carried, turn-room, turn-asks, turn-keeps, turn-taken}
 use Rattle.swap_reckoning.specs.declared.Counts.{Counts}
 
 -- ---- a slot

@@ -18,8 +18,8 @@ use Rattle.lists.specs.Truth.{by}
 use Rattle.lists.specs.Ranks.{which-finds, which-misses}
 use Rattle.lists.specs.Which.{which}
 use Rattle.diagrams.specs.Layout.{records, variableAt, lowAt, highAt, isFree}
-use Rattle.diagrams.specs.Node.{Node, free, node, at, ref, look, two-more}
-use Rattle.diagrams.specs.Decode.{nodeAt, decode}
+use Rattle.diagrams.specs.Node.{Node, free, node, ref, look, two-more}
+use Rattle.diagrams.specs.Decode.{nodeAt}
 use Rattle.diagrams.specs.Lookup.{lookup, at-decode}
 use Rattle.swap_rules.specs.Record.{lowOf, highOf, isOf, same}
 use Rattle.swap_rules.specs.Swap.{crosses, stands, isNew}

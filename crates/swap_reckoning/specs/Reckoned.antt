@@ -214,8 +214,8 @@ module _ {t : List ℕ} {p : Pair} {crossing standing slots : List ℕ} where
         → Turns t p (slotsOf q′ slots) crossing news kept m k → Turns t p (slotsOf q slots) crossing news kept m k
     turn-carried s e w = rw e at w
 
-    pub turns-end : {q q′ : Counts} {n : ℕ} → Sorted t p crossing standing slots q → Turns t p (slotsOf q slots) crossing news kept n (q .crossing) → q′ ≡ withNeeded q n
-        → Reckoned t p crossing slots news kept q′
+    pub turns-end : {q q′ : Counts} {n : ℕ} → Sorted t p crossing standing slots q → Turns t p (slotsOf q slots) crossing news kept n (q .crossing)
+        → q′ ≡ withNeeded q n → Reckoned t p crossing slots news kept q′
     turns-end {q} {q′} {n} s w e = rw e (record {
       crossing-are = s .crossing-are;
       news-room = omega (arith, w .few, w .room .news-long, few-crossing s);
@@ -309,7 +309,8 @@ pub free-is : {t slots : List ℕ} {q : Counts} → FreeSlots t slots q → q .f
 unfolding freeCount
 free-is {t} F = sym (length-entries (F .free-are)) ∙ which-length (isFree t) (records t) ∙ sym (count-agrees (isFree t) _ (records t) (kinds.free-is t))
 
-pub dying-added : {t r : List ℕ} {p : Pair} {slots : List ℕ} {q q′ : Counts} {k : ℕ} → SlotsListed t r p slots k → q′ ≡ withSlots q k → AllSlots t r p slots q q′
+pub dying-added : {t r : List ℕ} {p : Pair} {slots : List ℕ} {q q′ : Counts} {k : ℕ} → SlotsListed t r p slots k → q′ ≡ withSlots q k
+    → AllSlots t r p slots q q′
 dying-added s e = rw e (record { listed = s; same = refl })
 
 -- the lists are as they were, but for the slots

@@ -1,4 +1,4 @@
--- The image of the table afterwards: the records as they were, over which what dies, the new and the crossed ones are stored, are the definition's.
+-- The image of the table afterwards: the records as they were, and over them what dies, the new ones and the crossed ones, are the definition's.
 use Prim.Native.Nat.{ℕ, _+_, _-_, _*_, _%_, _≤_, _<_}
 use mathlib.Core.Bool.{Bool, true, false, cond}
 use mathlib.Core.List.{List, _++_}
@@ -29,7 +29,7 @@ use Rattle.swap_records.specs.declared.Pair.{Pair}
 use Rattle.swap_names.specs.Dying.{diesIn}
 use Rattle.swap_names.specs.Slots.{slotsIn, SlotsListed, slots-which, slots-apart, slots-inside}
 use Rattle.swap_reckoning.specs.Asked.{newsIn, becomesIn}
-use Rattle.swap_reckoning.specs.Reckoned.{Reckoned, needed-is}
+use Rattle.swap_reckoning.specs.Reckoned.{slotsOf, Reckoned, needed-is}
 use Rattle.swap_reckoning.specs.declared.Counts.{Counts}
 
 -- ---- one record stored
@@ -135,15 +135,16 @@ module _ {t : List ℕ} {p : Pair} {crossing slots news kept : List ℕ} {q : Co
   y = p .y .0
 
   crossed-row : (f : ℕ → Node)
-      → fold (placed y kept crossing) (row t d f) (q .crossing) ≡ row t d (λ i. cond (crossesAt t x y i) (becomesIn t x y (take (q .slots) slots) (ref i)) (f i))
+      → fold (placed y kept crossing) (row t d f) (q .crossing)
+      ≡ row t d (λ i. cond (crossesAt t x y i) (becomesIn t x y (slotsOf q slots) (ref i)) (f i))
   unfolding placed
   crossed-row f =
       fold-agrees _ (through crossing into) (row t d f) (q .crossing) (λ l j b. ap (λ m. storedAt l (getD crossing j 0) (eight m)) (R .kept-are j b))
       ∙ fold-entries into (crossesAt t x y) (R .crossing-are) (row t d f)
-      ∙ stores-where (crossesAt t x y) (λ i. becomesIn t x y (take (q .slots) slots) (ref i)) f d (records t)
+      ∙ stores-where (crossesAt t x y) (λ i. becomesIn t x y (slotsOf q slots) (ref i)) f d (records t)
     where
       into : List ℕ → ℕ → List ℕ
-      into l i = storedAt l i (eight (becomesIn t x y (take (q .slots) slots) (ref i)))
+      into l i = storedAt l i (eight (becomesIn t x y (slotsOf q slots) (ref i)))
 
   -- ---- record i is the definition's
 
@@ -152,11 +153,12 @@ module _ {t : List ℕ} {p : Pair} {crossing slots news kept : List ℕ} {q : Co
     index = placeIn (slotsIn t r p) i
 
     other-is : (u : Bool) → ltb index (q .needed) ≡ u
-        → cond u (pairAt x news index) (cond (diesIn t r p i) free (nodeAt t i)) ≡ cond u (getD (newsIn t x y) index free) (cond (diesIn t r p i) free (at (decode t) i))
+        → cond u (pairAt x news index) (cond (diesIn t r p i) free (nodeAt t i))
+        ≡ cond u (getD (newsIn t x y) index free) (cond (diesIn t r p i) free (at (decode t) i))
     other-is true e = sym (pairs-at x news (q .needed) index (ltb-true _ _ e)) ∙ ap (λ (l : List Node). getD l index free) (R .news-are)
     other-is false e = ap (cond (diesIn t r p i) free) (sym (at-decode t i h))
 
-    after-is : cond (crossesAt t x y i) (becomesIn t x y (take (q .slots) slots) (ref i))
+    after-is : cond (crossesAt t x y i) (becomesIn t x y (slotsOf q slots) (ref i))
         (cond (ltb index (q .needed)) (pairAt x news index) (cond (diesIn t r p i) free (nodeAt t i)))
         ≡ recordAfter plain (at (decode t)) (records t) x y (rootsOf r) i
     unfolding recordAfter filled slotIndex

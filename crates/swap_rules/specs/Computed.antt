@@ -13,7 +13,7 @@ use Rattle.lists.specs.Mem.{Mem, at-mem, mem-at, apart-at}
 use Rattle.lists.specs.Truth.{by, clash}
 use Rattle.diagrams.specs.Node.{Node, free, node, ref, look}
 use Rattle.diagrams.specs.Edition.{Edition, invert, bare, turned, seen, Rooted, turned-twice, seen-opposite, opposite-one, bare-upright, invert-twice}
-use Rattle.diagrams.specs.Edition.{invert-bare, turned-back, seen-invert, seen-upright, turned-free, as-inverted}
+use Rattle.diagrams.specs.Edition.{invert-bare, turned-back, seen-invert, seen-upright, as-inverted}
 use Rattle.diagrams.specs.Levels.{free-node}
 use Rattle.swap_rules.specs.Record.{lowOf, highOf, same, UsedOf, says-same, pick-node, Behind}
 use Rattle.swap_rules.specs.Swap.{normal, f00, f01, f10, f11, crosses, crossing, stands, isNew, wanted, news, slots, slotIndex, slotOf, placed, X}
@@ -21,7 +21,7 @@ use Rattle.swap_rules.specs.Swap.{becomes, filled, dies, recordAfter}
 use Rattle.swap_rules.specs.Step.{Side, Asked, Open, Kind, kept, crossed, fresh, gone, Serves, Step, crosses-x}
 use Rattle.swap_rules.specs.Opposites.{grand-opposite, crosses-opposite, asked-opposite, normal-node, behind-seen}
 use Rattle.swap_rules.specs.Fitting.{Fitting, in-table, own-seen, free-stays, y-stays, seen-high, grand-high}
-use Rattle.swap_rules.specs.Dying.{dies-y, dies-unrooted, dies-unnamed, y-lives, other-lives, free-lives, dies-opposite, dies-invert}
+use Rattle.swap_rules.specs.Dying.{dies-y, dies-unrooted, dies-unnamed, y-lives, other-lives, free-lives, dies-opposite}
 use Rattle.swap_rules.specs.Making.{AskedFor, asked-wanted, says-stands, says-standing, says-new, new-alone, wanted-news, news-apart}
 use Rattle.swap_rules.specs.Making.{slots-enough, slot-in, slot-open, slot-index, filled-index, index-filled, index-slot, filled-slot, filled-new}
 use Rattle.swap_rules.specs.Making.{X-same, X-other, X-opposite}

@@ -145,10 +145,3 @@ module _ {E : Edition} {T : ℕ → Node} {N x y : ℕ} {roots : List ℕ} (R : 
   dies-opposite b g r =
       let e : bare E (E .opposite r) ≡ bare E r = bare-opposite E b g r in
       rw (seen-opposite E b g T r, of-turned E true y (seen E T r), e, still-names-one (E .opposite r) r e)
-
-  pub dies-invert : (b r : ℕ) → Dies (invert E (E .inverted b) r) ≡ Dies r
-  dies-invert b r = go (E .inverted b) refl
-    where
-      go : (s : Bool) → E .inverted b ≡ s → Dies (invert E s r) ≡ Dies r
-      go true e = dies-opposite b e r
-      go false e = refl

@@ -2,17 +2,17 @@
 use Prim.Native.Nat.{ℕ, _+_, _-_, _≤_, _<_}
 use native.Mathlib.Omega.{arith}
 use mathlib.Core.List.{List}
-use mathlib.Core.Path.{_≡_, ap, sym, _∙_}
+use mathlib.Core.Path.{_≡_, sym, _∙_}
 use lib.Dec.{leb}
 use lib.ListN.{length, length-append}
 use borrow.Author.Tests.{le-leb, lt-leb}
 use Rattle.lists.specs.Count.{count-not}
 use Rattle.lists.specs.Says.{either-side}
-use Rattle.lists.specs.Which.{which, which-length}
-use Rattle.diagrams.specs.Node.{Node, ref}
+use Rattle.lists.specs.Which.{which-length}
+use Rattle.diagrams.specs.Node.{Node}
 use Rattle.diagrams.specs.Edition.{Edition}
 use Rattle.swap_rules.specs.Record.{isFreeNode}
-use Rattle.swap_rules.specs.Swap.{needed, dies, slots, freeCount, usedCount, dyingCount, usedAfterwards, fits}
+use Rattle.swap_rules.specs.Swap.{needed, slots, freeCount, usedCount, dyingCount, usedAfterwards, fits}
 
 -- a record is used or free
 pub used-or-free : (T : ℕ → Node) (N : ℕ) → usedCount T N + freeCount T N ≡ N

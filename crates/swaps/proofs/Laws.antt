@@ -21,7 +21,8 @@ use Rattle.checks.specs.declared.Refusal.{Refusal}
 use Rattle.checks.specs.declared.Verdict.{Verdict}
 use Rattle.checks.specs.declared.Verdict.the-variants as verdict
 use Rattle.swap_rules.specs.Swap.{xAt, yAt}
-use Rattle.swaps.specs.Outcome.{wayOf, isClear, tableAfter, TableSwapped, noLevel, swapStages, swapAfter, swapJudged, swapOf, SwapOutcome}
+use Rattle.swap_preparing.specs.Table.{tableAfter}
+use Rattle.swaps.specs.Outcome.{wayOf, isClear, TableSwapped, noLevel, swapStages, swapAfter, swapJudged, swapOf, SwapOutcome}
 use Rattle.swaps.specs.Work.{Swappable, SwapDone}
 use Rattle.swaps.specs.Entry.{swap-starts}
 use Rattle.swaps.specs.declared.Lack.{Lack}

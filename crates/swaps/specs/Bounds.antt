@@ -23,7 +23,8 @@ use Rattle.checks.specs.declared.Verdict.the-variants as verdict
 use Rattle.diagrams.specs.Edition.{plain}
 use Rattle.swap_rules.specs.Record.{isFreeNode, same}
 use Rattle.swap_rules.specs.Swap.{xAt, yAt, bothAsked, crossing, isNew, wanted, news, needed, freeCount}
-use Rattle.swaps.specs.Outcome.{neededIn, freeIn, fitsIn, lack, wayOf, noLevel, swapStages, swapAfter, swapJudged, swapOf, numbers}
+use Rattle.swap_preparing.specs.Table.{neededIn, freeIn, fitsIn}
+use Rattle.swaps.specs.Outcome.{lack, wayOf, noLevel, swapStages, swapAfter, swapJudged, swapOf, numbers}
 use Rattle.swaps.specs.declared.Way.the-variants as way
 
 module _ (T : ℕ → Node) (N x y : ℕ) where

@@ -1,7 +1,7 @@
 -- A fitting swap of a stored table, over its bytes: it passes every check again, under the exchanged order, and every root keeps its value.
 use Prim.Native.Nat.{ℕ, _+_, _-_, _*_, _%_, _<_}
 use native.Mathlib.Omega.{arith}
-use mathlib.Core.Bool.{Bool, true, false, cond, not}
+use mathlib.Core.Bool.{Bool, true, false, not}
 use mathlib.Core.List.{List}
 use mathlib.Core.Logic.{inl, inr}
 use mathlib.Core.Path.{_≡_, refl, ap, sym, _∙_}
@@ -12,10 +12,10 @@ use Rattle.orders.specs.Permutation.{Permutation, levelOf, inside-level}
 use Rattle.orders.specs.Exchange.{exchange, length-exchange, exchange-permutation}
 use Rattle.diagrams.specs.Layout.{recordSize, mostRecords, records, rootCount, variableAt, lowAt, highAt, isFree, isUsed, rootAt}
 use Rattle.diagrams.specs.Node.{Node, free, node, Constant, at, ref, two-more, look}
-use Rattle.diagrams.specs.Decode.{Used, nodeAt, decode, eight, WellLaid, encode-decode}
+use Rattle.diagrams.specs.Decode.{Used, decode, eight, WellLaid, encode-decode}
 use Rattle.diagrams.specs.Store.{length-encode}
 use Rattle.diagrams.specs.Encode.{Small, AllSmall, decode-encode, encode-laid, take-record}
-use Rattle.diagrams.specs.Lookup.{length-decode, rootsOf, lookup, at-decode, node-of, length-roots, root-is}
+use Rattle.diagrams.specs.Lookup.{length-decode, rootsOf, lookup, node-of, length-roots, root-is}
 use Rattle.diagrams.specs.Bryant.{Among, Vertex}
 use Rattle.diagrams.specs.Levels.{free-node}
 use Rattle.diagrams.specs.Diagram.{Named, Diagram}
@@ -29,10 +29,11 @@ use Rattle.checks.specs.declared.CheckAnswer.the-variants.{Accepted}
 use Rattle.diagrams.specs.Edition.{plain}
 use Rattle.swap_rules.specs.Record.{isUsedNode, isFreeNode, UsedOf, Behind, behind}
 use Rattle.swap_rules.specs.Swap.{xAt, yAt, crosses, dies, filled, usedCount, swapped}
+use Rattle.swap_records.specs.Kinds as kinds
 use Rattle.swap_rules.specs.Room.{used-or-free}
 use Rattle.swap_rules.specs.Stored.{plain-written, SwapFits, length-swapped}
 use Rattle.swap_rules.specs.Theorem.{Cofactors, swap-diagram, swap-bryant, swap-root, swap-reads, swap-else, swap-count, cofactors, freed-exactly}
-use Rattle.swaps.specs.Outcome.{neededIn, freeIn, dyingIn, fitsIn, tableAfter}
+use Rattle.swap_preparing.specs.Table.{neededIn, freeIn, dyingIn, fitsIn, tableAfter}
 
 -- ---- as many records as before
 
@@ -49,19 +50,11 @@ module _ (t r : List ℕ) (x y : ℕ) where
   length-after : length t % recordSize ≡ 0 → length (tableAfter t r x y) ≡ length t
   length-after whole = omega (arith, bytes-of)
 
--- ---- the used and the free records, in the bytes and in the records
-
-free-at : (t : List ℕ) (i : ℕ) → i < records t → isFree t i ≡ isFreeNode (at (decode t) i)
-unfolding nodeAt isFreeNode
-free-at t i b = go (isFree t i) ∙ ap isFreeNode (sym (at-decode t i b))
-  where
-    go : (f : Bool) → f ≡ isFreeNode (cond f free (node (variableAt t i) (lowAt t i) (highAt t i)))
-    go true = refl
-    go false = refl
+-- ---- the used records, in the bytes and in the records
 
 used-is : (t : List ℕ) → used t ≡ usedCount (at (decode t)) (records t)
 unfolding usedCount
-used-is t = count-agrees (λ i. isUsedNode (at (decode t) i)) (isUsed t) (records t) (λ i b. ap not (free-at t i b))
+used-is t = count-agrees (λ i. isUsedNode (at (decode t) i)) (isUsed t) (records t) (λ i b. ap not (sym (kinds.free-is t i b)))
 
 -- the two readings of room, over the bytes: a table of N records has no slot for each new one where more than N would be used afterwards, and only there
 pub outnumbers : (t r : List ℕ) (x y : ℕ) → freeIn t + dyingIn t r x y < neededIn t x y → records t < used t + neededIn t x y - dyingIn t r x y
@@ -199,7 +192,7 @@ module _ (t r o : List ℕ) (k : ℕ) (usable : Usable t r o) (level : k + 1 < l
       freed = freed-exactly swap-fits before (ref i) was-y
 
       free-is : isFree t′ i ≡ isFreeNode (at S i)
-      free-is = free-at t′ i (rw (records-after t r x y) b) ∙ ap (λ s. isFreeNode (at s i)) decode-after
+      free-is = sym (kinds.free-is t′ i (rw (records-after t r x y) b)) ∙ ap (λ s. isFreeNode (at s i)) decode-after
 
   -- the used records are those before, plus new, less dying
   pub swap-used : used t′ + dyingIn t r x y ≡ used t + neededIn t x y

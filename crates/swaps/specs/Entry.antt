@@ -27,7 +27,8 @@ use Rattle.checks.specs.declared.Verdict.the-variants as verdict
 use Rattle.swap_rules.specs.Swap.{xAt, yAt, crosses}
 use Rattle.swap_rules.specs.Room.{fits-slots}
 use Rattle.swap_rules.specs.Theorem.{Cofactors}
-use Rattle.swaps.specs.Outcome.{neededIn, freeIn, fitsIn, dyingIn, lack, wayOf, isClear, way-fits, way-clear, way-lacks, tableAfter}
+use Rattle.swap_preparing.specs.Table.{neededIn, freeIn, fitsIn, dyingIn, tableAfter}
+use Rattle.swaps.specs.Outcome.{lack, wayOf, isClear, way-fits, way-clear, way-lacks}
 use Rattle.swaps.specs.Outcome.{noLevel, swapStages, Swapped, swapAfter, swapJudged, swapOf, SwapOutcome}
 use Rattle.swaps.specs.Bytes.{swap-usable, swap-root-value, swap-cofactors, swap-used, swap-frees-exactly}
 use Rattle.swaps.specs.declared.Lack.{Lack}

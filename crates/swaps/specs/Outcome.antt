@@ -9,39 +9,17 @@ use lib.ListN.{length}
 use Rattle.lists.specs.Apart.{apart}
 use Rattle.lists.specs.Says.{true-false}
 use Rattle.orders.specs.Exchange.{exchange}
-use Rattle.diagrams.specs.Layout.{records}
-use Rattle.diagrams.specs.Node.{at}
-use Rattle.diagrams.specs.Decode.{decode, encode}
-use Rattle.diagrams.specs.Lookup.{rootsOf}
 use Rattle.checks.specs.Stages.{Stage, stageAt, verdictOf}
 use Rattle.checks.specs.Check.{checkStages}
 use Rattle.checks.specs.declared.Verdict.{Verdict}
 use Rattle.checks.specs.declared.Verdict.the-variants as verdict
-use Rattle.diagrams.specs.Edition.{plain}
-use Rattle.swap_rules.specs.Swap.{xAt, yAt, needed, freeCount, fits, dyingCount, swapped}
+use Rattle.swap_rules.specs.Swap.{xAt, yAt}
+use Rattle.swap_preparing.specs.Table.{neededIn, freeIn, fitsIn, tableAfter}
 use Rattle.swaps.specs.declared.Lack.{Lack}
 use Rattle.swaps.specs.declared.Way.{Way}
 use Rattle.swaps.specs.declared.Way.the-variants as way
 use Rattle.swaps.specs.declared.SwapAnswer.{SwapAnswer}
 use Rattle.swaps.specs.declared.SwapAnswer.the-variants.{Made, NoRoom, Refused}
-
--- ---- the numbers of a swap of the stored table t, where x and y are the variables of the two levels
-
--- needed: how many new records the swap makes
-abbrev pub neededIn : List ℕ → ℕ → ℕ → ℕ
-neededIn t x y = needed plain (at (decode t)) (records t) x y
-
--- free: how many records are free before it
-abbrev pub freeIn : List ℕ → ℕ
-freeIn t = freeCount (at (decode t)) (records t)
-
--- dying: how many y records neither the roots r nor a record that keeps its references names
-abbrev pub dyingIn : List ℕ → List ℕ → ℕ → ℕ → ℕ
-dyingIn t r x y = dyingCount plain (at (decode t)) (records t) x y (rootsOf r)
-
--- there is room unless the records used after it would outnumber the table
-abbrev pub fitsIn : List ℕ → List ℕ → ℕ → ℕ → Bool
-fitsIn t r x y = fits plain (at (decode t)) (records t) x y (rootsOf r)
 
 -- ---- what stands in the way of a swap of levels k and k + 1 of the order o: nothing, or that there is no room
 
@@ -55,10 +33,6 @@ wayOf t r o k = cond (fitsIn t r (xAt o k) (yAt o k)) way.Clear (way.NoRoom (lac
 abbrev pub isClear : Way → Bool
 isClear way.Clear = true
 isClear (way.NoRoom l) = false
-
--- the table afterwards, where nothing stands in the way
-unfoldable pub tableAfter : List ℕ → List ℕ → ℕ → ℕ → List ℕ
-tableAfter t r x y = encode (swapped plain (decode t) x y (rootsOf r))
 
 -- a swap of the table alone
 pub record TableSwapped (t r o : List ℕ) (k : ℕ) (w : Way) (t′ : List ℕ) : Type 0 where

@@ -1,7 +1,7 @@
 use borrow.Author.Needs.{needs}
-use Rattle.swaps.proofs.Entry.{free-slots, free-suffices, dying-counts}
-use Rattle.swaps.proofs.count_room.Statement.{statement}
-use Rattle.swaps.proofs.count_room.Tie as tie
+use Rattle.swap_preparing.proofs.Laws.{free-slots, free-suffices, dying-counts}
+use Rattle.swap_preparing.proofs.count_room.Statement.{statement}
+use Rattle.swap_preparing.proofs.count_room.Tie as tie
 
 dying : tie.Need-returns-2
 dying c =

@@ -1,7 +1,7 @@
 use borrow.Author.Needs.{needs}
-use Rattle.swaps.proofs.Entry.{no-image}
-use Rattle.swaps.proofs.prepare_in.Statement.{statement}
-use Rattle.swaps.proofs.prepare_in.Tie as tie
+use Rattle.swap_preparing.proofs.Laws.{no-image}
+use Rattle.swap_preparing.proofs.prepare_in.Statement.{statement}
+use Rattle.swap_preparing.proofs.prepare_in.Tie as tie
 
 fill : tie.Need-fill-image-requires
 fill c κs =

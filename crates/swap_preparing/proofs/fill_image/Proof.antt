@@ -1,8 +1,8 @@
 use borrow.Author.Needs.{needs}
 use Rattle.swap_reckoning.specs.Reckoned.{sorted-again}
-use Rattle.swaps.proofs.Entry.{no-room, fillable, prepared}
-use Rattle.swaps.proofs.fill_image.Statement.{statement}
-use Rattle.swaps.proofs.fill_image.Tie as tie
+use Rattle.swap_preparing.proofs.Laws.{no-room, fillable, prepared}
+use Rattle.swap_preparing.proofs.fill_image.Statement.{statement}
+use Rattle.swap_preparing.proofs.fill_image.Tie as tie
 
 lacking : tie.Need-returns
 lacking c =
