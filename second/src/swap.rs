@@ -1,4 +1,4 @@
-//! One swap, its steps in the order of docs/RULES.md, 4.
+//! One swap, by docs/RULES.md, 4: what dies is found before the new records are made.
 
 use std::collections::{HashMap, HashSet};
 

@@ -5,7 +5,7 @@
 -- `checkOf`, `readOf`, `partOf`, `swapOf` and `runOf` are the outcomes that the contracts of the entries cite. t is the table, r the roots, o the order
 -- and g the target, each as the list of its bytes. An entry's checks are a list: `checkStages`, `readStages`, `swapStages`, `runStages`.
 -- `FailsFirst` of such a list, with k and p: check k fails at place p, at no place before it, and every check before k passes everywhere.
-use Prim.Native.Nat.{ℕ, _+_, _-_, _≤_, _<_}
+use Prim.Native.Nat.{ℕ, _+_, _≤_, _<_}
 use mathlib.Core.Bool.{Bool}
 use mathlib.Core.List.{List}
 use mathlib.Core.Path.{_≡_, ap, sym, _∙_}
@@ -112,8 +112,8 @@ module _ (t r o : List ℕ) where
       only = λ e. let w = swap.made-only t r o k e in (w .0, swap.fits-then t r o k (w .1));
     }
 
-    -- the other reading of the same: those used before, plus new, less dying, are more than the table has records
-    pub outnumbered : Exactly (freeIn t + Dying t r o k < Needed t o k) (records t < used t + Needed t o k - Dying t r o k)
+    -- the other reading of the same: the records used before, plus new, less dying, are more than the table has
+    pub outnumbered : Exactly (freeIn t + Dying t r o k < Needed t o k) (records t + Dying t r o k < used t + Needed t o k)
     outnumbered = record { wherever = lacks-slots t r (xAt o k) (yAt o k); only = outnumbers t r (xAt o k) (yAt o k) }
 
     -- a swap that isn't made changes nothing

@@ -42,7 +42,7 @@ which-getD p (suc n) i h t =
     last : i ≡ n → getD (which p n ++ cond (p n) (n ∷ []) []) (count p i) 0 ≡ i
     last z = rw (sym (ap p z) ∙ t) (getD-at (which p n) n [] 0 (count p i) (which-length p n ∙ ap (count p) (sym z)) ∙ sym z)
 
-pub which-rank : (p : ℕ → Bool) (n k : ℕ) → k < length (which p n) → count p (getD (which p n) k 0) ≡ k
+which-rank : (p : ℕ → Bool) (n k : ℕ) → k < length (which p n) → count p (getD (which p n) k 0) ≡ k
 which-rank p n k h =
     let r = which-at p n k h in
     apart-at (which p n) _ k 0 (which-apart p n) (which-below p n _ (r .0) (r .1)) h (which-getD p n _ (r .0) (r .1))

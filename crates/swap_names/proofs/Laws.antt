@@ -15,7 +15,7 @@ use Rattle.swap_records.specs.Kinds.{ofAt}
 use Rattle.swap_names.specs.Naming.{named, namedRoot, namedBy, namedOther, unnamed, CountRoom, room-less, room-named}
 use Rattle.swap_names.specs.Naming.{two-of-root, two-of-other}
 use Rattle.swap_names.specs.Naming.{counting-begins, counting-one, counting-two, counting-goes, counting-ends}
-use Rattle.swap_names.specs.Slots.{nameless}
+use Rattle.swap_names.specs.Slots.{dyingBy}
 
 module _ (l : List ℕ) (q : ℕ) where
   pub name-counts : {v : ℕ} → v ≡ getD l q 0 → set l q (v + 1) ≡ named l q
@@ -59,6 +59,6 @@ pub ruleset counting =
 
 -- ---- what dies goes to the slots
 
-pub nameless-is : (t : List ℕ) (y : ℕ) (names : List ℕ) (i : ℕ) {a b : Bool} → a ≡ ofAt t y i → b ≡ unnamed names i → (a && b) ≡ nameless t y names i
-unfolding nameless
-nameless-is t y names i p q = rw (p, q)
+pub dying-by : (t : List ℕ) (y : ℕ) (names : List ℕ) (i : ℕ) {a b : Bool} → a ≡ ofAt t y i → b ≡ unnamed names i → (a && b) ≡ dyingBy t y names i
+unfolding dyingBy
+dying-by t y names i p q = rw (p, q)

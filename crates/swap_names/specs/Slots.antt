@@ -2,18 +2,17 @@
 use Prim.Native.Nat.{ℕ, _+_, _≤_, _<_}
 use native.Mathlib.Omega.{arith}
 use mathlib.Core.Bool.{Bool, true, false, _&&_}
-use mathlib.Core.List.{List, _++_, List·Memᴰ·append-cases}
-use mathlib.Core.Logic.{⊎-elim}
+use mathlib.Core.List.{List, _++_}
 use mathlib.Core.Path.{_≡_, refl, ap, sym, _∙_, subst}
 use lib.ListN.{length, getD}
 use borrow.Author.Tests.{not-true}
 use Rattle.lists.specs.Collect.{Holds, Pushed, length-held, collect-counts}
-use Rattle.lists.specs.Count.{count, count-apart}
+use Rattle.lists.specs.Count.{count-apart}
 use Rattle.lists.specs.Entries.{held-at}
-use Rattle.lists.specs.Mem.{Mem, Apart, at-mem, append-apart}
+use Rattle.lists.specs.Mem.{Mem, Apart, at-mem}
 use Rattle.lists.specs.Ranks.{count-before}
 use Rattle.lists.specs.Truth.{clash, and-left}
-use Rattle.lists.specs.Which.{which, which-mem, which-apart, which-length, which-agrees}
+use Rattle.lists.specs.Which.{which, which-length, which-agrees, both-mem, both-apart}
 use Rattle.diagrams.specs.Edition.{plain}
 use Rattle.diagrams.specs.Layout.{mostRecords, records, isFree, isUsed}
 use Rattle.diagrams.specs.Node.{at}
@@ -46,26 +45,20 @@ dying-used t r p i l e = and-left (isUsed t i) _ (sym (of-is t (p .y .0) i l) �
 
 -- no record stands there twice: a free one does not die
 pub slots-apart : (t r : List ℕ) (p : Pair) → Apart (slotsIn t r p)
-slots-apart t r p = rw (slots-which t r p) (append-apart _ _ (which-apart (isFree t) (records t)) (which-apart (diesIn t r p) (records t)) free-or-dies)
-  where
-    free-or-dies : (i : ℕ) → Mem i (which (isFree t) (records t)) → Mem i (which (diesIn t r p) (records t)) → ⊥
-    free-or-dies i m k =
-        let z : (i < records t) × (isFree t i ≡ true) = which-mem (isFree t) (records t) i m in
-        clash (z .1) (not-true (isFree t i) (dying-used t r p i (z .0) (which-mem (diesIn t r p) (records t) i k .1)))
+slots-apart t r p =
+    rw (slots-which t r p)
+    (both-apart (isFree t) (diesIn t r p) (records t) (λ i b f d. clash f (not-true (isFree t i) (dying-used t r p i b d))))
 
 -- they are records of the table
 pub slots-inside : {t r : List ℕ} {p : Pair} {list : List ℕ} {k : ℕ} → SlotsListed t r p list k → Inside t list k
 slots-inside {t} {r} {p} {list} {k} s = record { room = s .held .room; at = λ j h. omega (arith, below j h) }
   where
-    in-table : (i : ℕ) → Mem i (which (isFree t) (records t) ++ which (diesIn t r p) (records t)) → i < records t
-    in-table i m =
-        ⊎-elim (λ n. which-mem (isFree t) (records t) i n .0) (λ n. which-mem (diesIn t r p) (records t) i n .0)
-        (List·Memᴰ·append-cases (which (isFree t) (records t)) m)
-
     below : (j : ℕ) → j < k → getD list j 0 < records t
     below j h =
         let l : j < length (slotsIn t r p) = rw (length-held (s .held)) h in
-        rw (held-at (s .held) j h) (in-table _ (subst (Mem (getD (slotsIn t r p) j 0)) (slots-which t r p) (at-mem (slotsIn t r p) j 0 l)))
+        let m : Mem (getD (slotsIn t r p) j 0) (which (isFree t) (records t) ++ which (diesIn t r p) (records t)) =
+        subst (Mem (getD (slotsIn t r p) j 0)) (slots-which t r p) (at-mem (slotsIn t r p) j 0 l) in
+        rw (held-at (s .held) j h) (both-mem (isFree t) (diesIn t r p) (records t) _ m .0)
 
 -- ---- the loop that adds what dies
 
@@ -74,22 +67,22 @@ pub record NamesFor (t names : List ℕ) : Type 0 where
   pub few : records t ≤ mostRecords
   pub long : length names ≡ mostRecords + 2
 
--- record i is a y record without a name
-unfoldable pub nameless : List ℕ → ℕ → List ℕ → ℕ → Bool
-nameless t y names i = ofAt t y i && unnamed names i
+-- record i dies, by the counts: a y record without a name
+unfoldable pub dyingBy : List ℕ → ℕ → List ℕ → ℕ → Bool
+dyingBy t y names i = ofAt t y i && unnamed names i
 
--- the list holds the free records, and after them those below i without a name
+-- the list holds the free records, and after them those below i that die
 pub record Adding (t : List ℕ) (y : ℕ) (names : List ℕ) (i : ℕ) (list : List ℕ) (k : ℕ) : Type 0 where
   pub names-for : NamesFor t names
-  pub so-far : Listing t (which (isFree t) (records t)) (nameless t y names) (records t) i list k
+  pub so-far : Listing t (which (isFree t) (records t)) (dyingBy t y names) (records t) i list k
 
 pub record Added (t : List ℕ) (y : ℕ) (names list : List ℕ) (k : ℕ) : Type 0 where
-  pub held : Holds (which (isFree t) (records t) ++ which (nameless t y names) (records t)) list k
+  pub held : Holds (which (isFree t) (records t) ++ which (dyingBy t y names) (records t)) list k
 
 -- a free record is none of y
-free-or-nameless : (t : List ℕ) (y : ℕ) (names : List ℕ) (i : ℕ) → i < records t → isFree t i ≡ true → nameless t y names i ≡ true → ⊥
-unfolding nameless
-free-or-nameless t y names i l f e =
+free-or-dying : (t : List ℕ) (y : ℕ) (names : List ℕ) (i : ℕ) → i < records t → isFree t i ≡ true → dyingBy t y names i ≡ true → ⊥
+unfolding dyingBy
+free-or-dying t y names i l f e =
     let u : isUsed t i ≡ true = and-left (isUsed t i) _ (sym (of-is t y i l) ∙ and-left (ofAt t y i) _ e) in
     clash f (not-true (isFree t i) u)
 
@@ -99,7 +92,7 @@ module _ {t : List ℕ} {y : ℕ} {names list : List ℕ} where
 
   module _ {i k : ℕ} (w : Adding t y names i list k) where
     -- there is room for the next one: no record is in the list twice
-    pub adding-room : {b : Bool} → b ≡ nameless t y names i → b ≡ true → i < records t → k < length list
+    pub adding-room : {b : Bool} → b ≡ dyingBy t y names i → b ≡ true → i < records t → k < length list
     adding-room e h l =
         omega (
           arith,
@@ -107,33 +100,33 @@ module _ {t : List ℕ} {y : ℕ} {names list : List ℕ} where
           w .so-far .room .long,
           collect-counts (w .so-far .so-far),
           which-length (isFree t) (records t),
-          count-before (nameless t y names) (records t) i l (sym e ∙ h),
-          count-apart (isFree t) (nameless t y names) (records t) (free-or-nameless t y names),
+          count-before (dyingBy t y names) (records t) i l (sym e ∙ h),
+          count-apart (isFree t) (dyingBy t y names) (records t) (free-or-dying t y names),
         )
 
     pub adding-small : i < records t → i < 65536
     adding-small l = listing-small (w .so-far) l
 
-    pub adding-passes : {b : Bool} → b ≡ nameless t y names i → b ≡ false → i < records t → Adding t y names (i + 1) list k
+    pub adding-passes : {b : Bool} → b ≡ dyingBy t y names i → b ≡ false → i < records t → Adding t y names (i + 1) list k
     adding-passes e h l = record { names-for = w .names-for; so-far = listing-passes (w .so-far) (sym e ∙ h) l }
 
-    pub adding-goes : {b : Bool} {list′ : List ℕ} {k′ : ℕ} → b ≡ nameless t y names i → b ≡ true → Pushed true i list k list′ k′ → length list′ ≡ length list
+    pub adding-goes : {b : Bool} {list′ : List ℕ} {k′ : ℕ} → b ≡ dyingBy t y names i → b ≡ true → Pushed true i list k list′ k′ → length list′ ≡ length list
         → i < records t → Adding t y names (i + 1) list′ k′
     adding-goes e h q s l = record { names-for = w .names-for; so-far = listing-goes (w .so-far) (sym h ∙ e) q s l }
 
     pub adding-ends : {m : ℕ} → m ≡ records t → m ≤ i → Added t y names list k
     adding-ends e h = record { held = listing-holds (w .so-far) (omega arith) }
 
--- what has no name dies
+-- the counts tell what dies
 module _ {t r : List ℕ} {p : Pair} {names : List ℕ} (C : Counted t r p names) where
   pub names-for : TableSizes t r → NamesFor t names
   names-for s = record { few = omega (arith, s .few-records); long = C .long }
 
   pub slots-listed : {list : List ℕ} {k : ℕ} → Added t (p .y .0) names list k → SlotsListed t r p list k
-  unfolding nameless
+  unfolding dyingBy
   slots-listed a = record { held = record { entries = a .held .entries ∙ sym same; room = a .held .room } }
     where
-      same : slotsIn t r p ≡ which (isFree t) (records t) ++ which (nameless t (p .y .0) names) (records t)
+      same : slotsIn t r p ≡ which (isFree t) (records t) ++ which (dyingBy t (p .y .0) names) (records t)
       same = slots-which t r p ∙ ap (λ l. which (isFree t) (records t) ++ l) (which-agrees _ _ (records t) (λ i l. sym (C .tell i l)))
 
 pub ruleset adding = (adding-begins, adding-room, adding-small, adding-passes, adding-goes, adding-ends)

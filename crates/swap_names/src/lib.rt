@@ -1,4 +1,4 @@
-// What dies: how often the roots and the records that stay as they are name each reference.
+// How often the roots and the records of other variables than x name each reference, by which it is told what dies.
 ghost use mathlib.Core.Path.{_≡_};
 ghost use Prim.Native.Nat.{_+_, _*_, _<_};
 ghost use lib.ListN.{length};
@@ -76,14 +76,12 @@ fn count_others(names: &mut [u16], table: &[u8], x: Variable)
 }
 
 // By all that keeps its references and may name a y record: an x record with a y record as a child crosses.
-fn count_names(table: &[u8], roots: &[u8], pair: Pair) -> [u16; MOST_RECORDS + 2]
-    requires { ⌜ TableSizes (now table) (now roots) ⌝ }
-    ensures { λ names. ⌜ Counted (now (table .entry)) (now (roots .entry)) pair names ⌝ }
+fn count_names(names: &mut [u16], table: &[u8], roots: &[u8], pair: Pair)
+    requires { ⌜ (now names ≡ noNotes) × TableSizes (now table) (now roots) ⌝ }
+    ensures { λ _. ⌜ Counted (now (table .entry)) (now (roots .entry)) pair (now (names .exit)) ⌝ }
 {
-    let mut names = no_names();
-    count_roots(&mut names, roots);
-    count_others(&mut names, table, pair.x);
-    names
+    count_roots(names, roots);
+    count_others(names, table, pair.x);
 }
 
 fn is_unnamed(names: &[u16], i: RecordNumber) -> bool

@@ -8,38 +8,34 @@ use lib.Dec.{leb}
 use lib.ListN.{length}
 use Rattle.lists.specs.Collect.{length-held}
 use Rattle.lists.specs.Entries.{length-entries}
-use Rattle.lists.specs.Which.{which-length}
 use Rattle.diagrams.specs.Edition.{plain}
-use Rattle.diagrams.specs.Layout.{records, isFree}
+use Rattle.diagrams.specs.Layout.{records}
 use Rattle.diagrams.specs.Node.{at}
 use Rattle.diagrams.specs.Decode.{decode}
 use Rattle.diagrams.specs.Lookup.{rootsOf}
-use Rattle.swap_rules.specs.Room.{slots-count, fits-slots}
+use Rattle.swap_rules.specs.Room.{slots-count}
 use Rattle.swap_records.specs.declared.Pair.{Pair}
 use Rattle.swap_names.specs.Slots.{SlotsListed, slots-inside}
 use Rattle.swap_reckoning.specs.Searching.{withNeeded}
 use Rattle.swap_reckoning.specs.Reckoned.{Reckoned, FreeSlots, AllSlots, needed-is, free-is}
 use Rattle.swap_reckoning.specs.declared.Counts.{Counts}
 use Rattle.swap_result.specs.Image.{SlotsFor, Fillable, Filled, free-first}
-use Rattle.swap_preparing.specs.Table.{neededIn, freeIn, dyingIn, fitsIn, tableAfter}
+use Rattle.swap_preparing.specs.Table.{neededIn, freeIn, dyingIn, fitsIn, tableAfter, fit-is}
 use Rattle.swap_preparing.specs.Prepared.{CountsOf, Preparing, Prepared}
 
 -- ---- room
-
-module _ (t r : List ℕ) (p : Pair) where
-  fit-slots : fitsIn t r (p .x .0) (p .y .0) ≡ leb (neededIn t (p .x .0) (p .y .0)) (freeIn t + dyingIn t r (p .x .0) (p .y .0))
-  fit-slots = fits-slots plain (at (decode t)) (records t) (p .x .0) (p .y .0) (rootsOf r)
 
 -- all slots are listed, so that there is room exactly where needed is not above them
 listed-fit : {t r : List ℕ} {p : Pair} {slots : List ℕ} {k n : ℕ} → SlotsListed t r p slots k → n ≡ neededIn t (p .x .0) (p .y .0)
     → leb n k ≡ fitsIn t r (p .x .0) (p .y .0)
 listed-fit {t} {r} {p} S e =
-    ap₂ leb e (sym (length-held (S .held)) ∙ slots-count plain (at (decode t)) (records t) (p .x .0) (p .y .0) (rootsOf r)) ∙ sym (fit-slots t r p)
+    ap₂ leb e (sym (length-held (S .held)) ∙ slots-count plain (at (decode t)) (records t) (p .x .0) (p .y .0) (rootsOf r))
+    ∙ sym (fit-is t r (p .x .0) (p .y .0))
 
 -- the free ones suffice
 free-fit : (t r : List ℕ) (p : Pair) {n f : ℕ} → n ≡ neededIn t (p .x .0) (p .y .0) → f ≡ freeIn t → n ≤ f → leb n f ≡ fitsIn t r (p .x .0) (p .y .0)
 free-fit t r p {n} {f} e g h =
-    le-leb n f h ∙ sym (fit-slots t r p ∙ le-leb (neededIn t (p .x .0) (p .y .0)) (freeIn t + dyingIn t r (p .x .0) (p .y .0)) (omega arith))
+    le-leb n f h ∙ sym (fit-is t r (p .x .0) (p .y .0) ∙ le-leb (neededIn t (p .x .0) (p .y .0)) (freeIn t + dyingIn t r (p .x .0) (p .y .0)) (omega arith))
 
 -- ---- a swap that is asked for
 
@@ -80,7 +76,7 @@ module _ {t r : List ℕ} {p : Pair} {crossing slots slots′ news kept : List �
   counted = record { needed-is = needed-is R; free-is = free-same ∙ free-is F; fit-is = listed-fit listed (needed-is R) }
 
   slots-for : SlotsFor t r p slots′ counts
-  slots-for = record { listed = listed; frees = free-same ∙ sym (length-entries (F .free-are)) ∙ which-length (isFree t) (records t) }
+  slots-for = record { listed = listed; frees = free-same ∙ sym (length-entries (F .free-are)) }
 
   pub fillable : {image : List ℕ} → Preparing t r p → counts .needed ≤ counts .slots → length t ≤ length image
       → Fillable t p crossing slots′ news kept counts image
@@ -89,7 +85,7 @@ module _ {t r : List ℕ} {p : Pair} {crossing slots slots′ news kept : List �
     small-x = a .small-x;
     small-y = a .small-y;
     reckoned = R;
-    copyable = record { long = l; inside = slots-inside listed; frees = free-first slots-for };
+    copyable = record { long = l; inside = slots-inside listed; free-among = free-first slots-for };
     fit = h;
   }
 

@@ -1,4 +1,4 @@
-// A swap is prepared: it is reckoned, and where it is to be made and has room, the table afterwards goes to an image. Nothing lent for keeps is written.
+// A swap is prepared: it is reckoned, and where it is to be made and has room, the table afterwards goes to an image. The table is only read.
 ghost use Prim.Native.Nat.{_≤_};
 ghost use lib.ListN.{length};
 ghost use Rattle.check_sizes.specs.Sizes.{TableSizes};
@@ -29,7 +29,7 @@ fn count_room(
     if counts.needed <= counts.free {
         return counts;
     }
-    swap_reckoning::add_dying(table, roots, pair, slots, counts)
+    swap_reckoning::all_slots(table, roots, pair, slots, counts)
 }
 
 // A swap that is to be made: what dies is known before the room is judged. Where there is room, the table afterwards goes to the image.
@@ -49,7 +49,7 @@ fn fill_image(
         × (TurnRoom (now news) (now kept) × Preparing (now table) (now roots) pair)) × (length (now table) ≤ length (now image)) ⌝ }
     ensures { λ q. ⌜ Prepared (now (table .entry)) (now (roots .entry)) pair q (now (image .exit)) ⌝ }
 {
-    let start = swap_reckoning::add_dying(table, roots, pair, slots, sorted);
+    let start = swap_reckoning::all_slots(table, roots, pair, slots, sorted);
     let counts = swap_reckoning::reckon(table, pair, crossing, standing, slots, news, kept, start);
     if counts.slots < counts.needed {
         return counts;
@@ -58,7 +58,7 @@ fn fill_image(
     counts
 }
 
-// The swap of a pair is reckoned. No image is lent where it is only asked for.
+// The swap of a pair is reckoned. An image shorter than the table is none: then the swap is only asked for.
 fn prepare_in(
     table: &[u8],
     roots: &[u8],

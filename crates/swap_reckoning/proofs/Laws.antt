@@ -20,18 +20,18 @@ use Rattle.swap_reckoning.specs.declared.Counts.{Counts}
 
 -- ---- a slot
 
-module _ (slots : List ℕ) (free j : ℕ) where
-  pub slot-there : {v w : ℕ} → v ≡ getD slots j 0 → w ≡ v + 2 → j < free → w ≡ slotAt slots free j
+module _ (slots : List ℕ) (count j : ℕ) where
+  pub slot-there : {v w : ℕ} → v ≡ getD slots j 0 → w ≡ v + 2 → j < count → w ≡ slotAt slots count j
   unfolding slotAt
-  slot-there e q h = rw (lt-ltb j free h) (cc)
+  slot-there e q h = rw (lt-ltb j count h) (cc)
 
-  pub slot-past : {w : ℕ} → w ≡ 0 + 2 → free ≤ j → w ≡ slotAt slots free j
+  pub slot-past : {w : ℕ} → w ≡ 0 + 2 → count ≤ j → w ≡ slotAt slots count j
   unfolding slotAt
-  slot-past q h = rw (le-ltb j free h) q
+  slot-past q h = rw (le-ltb j count h) q
 
-  slot-small : {t : List ℕ} → Inside t slots free → records t ≤ mostRecords → slotAt slots free j < 65536
+  slot-small : {t : List ℕ} → Inside t slots count → records t ≤ mostRecords → slotAt slots count j < 65536
   unfolding slotAt
-  slot-small s few = either-side j free (λ h. rw (lt-ltb j free h) (omega (arith, s .at j h))) (λ h. rw (le-ltb j free h) (omega arith))
+  slot-small s few = either-side j count (λ h. rw (lt-ltb j count h) (omega (arith, s .at j h))) (λ h. rw (le-ltb j count h) (omega arith))
 
 -- ---- X(a, b) is asked for
 

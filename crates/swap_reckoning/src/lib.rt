@@ -10,7 +10,7 @@ use swap_records::collect;
 
 pub mod news;
 
-// How many records cross, stand, are new and are free, and how many slots there are for new ones.
+// How many records cross, stand, are new (0 until that is reckoned) and are free, and how many slots are listed for new ones.
 pub struct Counts {
     pub crossing: usize,
     pub standing: usize,
@@ -21,7 +21,7 @@ pub struct Counts {
 
 impl Counts {
     // The same, with so many new records.
-    fn with(self, needed: usize) -> Counts
+    fn with_needed(self, needed: usize) -> Counts
         ensures { λ q. ⌜ q ≡ withNeeded self needed ⌝ }
     {
         Counts {
@@ -71,7 +71,7 @@ pub fn sort_records(
 }
 
 // What dies goes after the free records: all the slots there are.
-pub fn add_dying(
+pub fn all_slots(
     table: &[u8],
     roots: &[u8],
     pair: Pair,
@@ -101,5 +101,5 @@ pub fn reckon(
         × (q ≡ withNeeded start (q .needed)) ⌝ }
 {
     let needed = news::take_turns(table, pair, crossing, standing, slots, news, kept, start);
-    start.with(needed)
+    start.with_needed(needed)
 }

@@ -155,7 +155,7 @@ fn note_both(
 {
     let g = swap_records::four(table, pair.y, i);
     let first = note(table, standing, slots, news, counts, g.f00, g.f10);
-    let then = counts.with(first.needed);
+    let then = counts.with_needed(first.needed);
     let second = note(table, standing, slots, news, then, g.f01, g.f11);
     let low = first.reference;
     let high = second.reference;
@@ -207,7 +207,7 @@ pub fn take_turns(
     let mut needed: usize = 0;
     let mut k = 0;
     while k < m {
-        let counts = start.with(needed);
+        let counts = start.with_needed(needed);
         needed = take_turn(
             table,
             pair,

@@ -9,12 +9,11 @@ use lib.Dec.{ltb}
 use lib.ListN.{length, getD, take, drop, length-append}
 use lib.Seq.{take-at, getD-append-add}
 use Rattle.lists.specs.Collect.{length-held}
-use Rattle.lists.specs.Count.{count}
 use Rattle.lists.specs.Entries.{through, held-at, fold-which, fold-entries}
 use Rattle.lists.specs.Fold.{fold, fold-agrees}
 use Rattle.lists.specs.Places.{placeIn}
 use Rattle.lists.specs.Tabulate.{tabulate, length-tabulate, tabulate-agrees}
-use Rattle.lists.specs.Which.{which, which-length}
+use Rattle.lists.specs.Which.{which}
 use Rattle.diagrams.specs.Edition.{plain}
 use Rattle.diagrams.specs.Layout.{recordSize, records, isFree}
 use Rattle.diagrams.specs.Node.{Node, free, at, ref}
@@ -54,14 +53,14 @@ living t slots q image = fold (freed (q .free) slots) (fold (stayed t) image (re
 pub record Copyable (t slots : List ℕ) (q : Counts) (image : List ℕ) : Type 0 where
   pub long : length t ≤ length image
   pub inside : Inside t slots (q .slots)
-  pub frees : q .free ≤ q .slots
+  pub free-among : q .free ≤ q .slots
 
 -- ---- the whole image
 
 -- the slots of the swap, the first of which are the free records
 pub record SlotsFor (t r : List ℕ) (p : Pair) (slots : List ℕ) (q : Counts) : Type 0 where
   pub listed : SlotsListed t r p slots (q .slots)
-  pub frees : q .free ≡ count (isFree t) (records t)
+  pub frees : q .free ≡ length (which (isFree t) (records t))
 
 -- the swap is reckoned and has room, and the image has room for the table
 pub record Fillable (t : List ℕ) (p : Pair) (crossing slots news kept : List ℕ) (q : Counts) (image : List ℕ) : Type 0 where
@@ -87,7 +86,7 @@ module _ {t r : List ℕ} {p : Pair} {slots : List ℕ} {q : Counts} (S : SlotsF
   all-slots : q .slots ≡ q .free + length (which (diesIn t r p) (records t))
   all-slots =
       sym (length-held (S .listed .held)) ∙ ap length (slots-which t r p) ∙ length-append (which (isFree t) (records t)) _
-      ∙ ap (λ m. m + length (which (diesIn t r p) (records t))) (which-length (isFree t) (records t) ∙ sym (S .frees))
+      ∙ ap (λ m. m + length (which (diesIn t r p) (records t))) (sym (S .frees))
 
   pub free-first : q .free ≤ q .slots
   free-first = omega (arith, all-slots)
@@ -96,7 +95,7 @@ module _ {t r : List ℕ} {p : Pair} {slots : List ℕ} {q : Counts} (S : SlotsF
   dying-at : (j : ℕ) → j < length (which (diesIn t r p) (records t)) → getD slots (q .free + j) 0 ≡ getD (which (diesIn t r p) (records t)) j 0
   dying-at j h =
       held-at (S .listed .held) (q .free + j) (omega (arith, all-slots))
-      ∙ ap₂ (λ (l : List ℕ) (m : ℕ). getD l (m + j) 0) (slots-which t r p) (S .frees ∙ sym (which-length (isFree t) (records t)))
+      ∙ ap₂ (λ (l : List ℕ) (m : ℕ). getD l (m + j) 0) (slots-which t r p) (S .frees)
       ∙ getD-append-add (which (isFree t) (records t)) (which (diesIn t r p) (records t)) j 0
 
   dead-row : (d : List ℕ) (f : ℕ → Node) → fold (freed (q .free) slots) (row t d f) (q .slots - q .free) ≡ row t d (λ i. cond (diesIn t r p i) free (f i))
@@ -127,18 +126,18 @@ module _ {t r : List ℕ} {p : Pair} {slots : List ℕ} {q : Counts} (S : SlotsF
           let l : j < q .slots = rw (length-held (S .listed .held)) at b in
           rw (← held-at (S .listed .held) j l) (omega (arith, slots-inside (S .listed) .at j l))
 
-module _ {t : List ℕ} {p : Pair} {crossing slots news kept : List ℕ} {q : Counts} (R : Reckoned t p crossing slots news kept q) (d : List ℕ) where
+module _ {t : List ℕ} {p : Pair} {crossing slots news kept : List ℕ} {q : Counts} (R : Reckoned t p crossing slots news kept q) where
   abbrev x : ℕ
   x = p .x .0
 
   abbrev y : ℕ
   y = p .y .0
 
-  crossed-row : (f : ℕ → Node)
+  crossed-row : (d : List ℕ) (f : ℕ → Node)
       → fold (placed y kept crossing) (row t d f) (q .crossing)
       ≡ row t d (λ i. cond (crossesAt t x y i) (becomesIn t x y (slotsOf q slots) (ref i)) (f i))
   unfolding placed
-  crossed-row f =
+  crossed-row d f =
       fold-agrees _ (through crossing into) (row t d f) (q .crossing) (λ l j b. ap (λ m. storedAt l (getD crossing j 0) (eight m)) (R .kept-are j b))
       ∙ fold-entries into (crossesAt t x y) (R .crossing-are) (row t d f)
       ∙ stores-where (crossesAt t x y) (λ i. becomesIn t x y (slotsOf q slots) (ref i)) f d (records t)
@@ -169,11 +168,12 @@ module _ {t : List ℕ} {p : Pair} {crossing slots news kept : List ℕ} {q : Co
 
 -- ---- the image as it is filled
 
-pub copies : {t slots : List ℕ} {q : Counts} {image : List ℕ} → Copyable t slots q image → (l₁ : List ℕ) → length l₁ ≡ length image
-    → Inside l₁ slots (q .free + (q .slots - q .free))
-copies {t} {slots} {q} c l₁ same =
-    let e : q .free + (q .slots - q .free) ≡ q .slots = omega (arith, c .frees) in
-    rw e (record { room = c .inside .room; at = λ k h. omega (arith, c .inside .at k h, c .long) })
+pub dying-inside : {t slots : List ℕ} {q : Counts} {image : List ℕ} {m : ℕ} → Copyable t slots q image → (l₁ : List ℕ) → length l₁ ≡ length image
+    → m ≤ q .slots - q .free → Inside l₁ slots (q .free + m)
+dying-inside c l₁ same h = record {
+  room = omega (arith, c .inside .room, c .free-among);
+  at = λ k b. omega (arith, c .inside .at k (omega (arith, c .free-among)), c .long);
+}
 
 pub copied-living : (t slots : List ℕ) (q : Counts) (image : List ℕ) {l₁ l₂ : List ℕ} → l₁ ≡ fold (stayed t) image (records t)
     → l₂ ≡ fold (freed (q .free) slots) l₁ (q .slots - q .free) → l₂ ≡ living t slots q image
@@ -218,7 +218,7 @@ module _ {t : List ℕ} {p : Pair} {crossing slots news kept : List ℕ} {q : Co
         (new ∙ ap (λ l. fold (placed (p .x .0) news slots) l (q .needed)) first-row ∙ new-row S rest (p .x .0) news _ (F .fit))
         ∙ crossed-row (F .reckoned) rest _
         ∙ ap (λ l. encode l ++ rest)
-        (tabulate-agrees (records t) _ _ (after-is (F .reckoned) rest S)
+        (tabulate-agrees (records t) _ _ (after-is (F .reckoned) S)
         ∙ ap (λ n. tabulate n (recordAfter plain (at (decode t)) n (p .x .0) (p .y .0) (rootsOf r))) (sym (length-decode t)))
 
     front : take (length t) l₃ ≡ encode nodes

@@ -114,7 +114,8 @@ module _ {E : Edition} {T : ℕ → Node} {N x y : ℕ} {roots : List ℕ} (R : 
   says-rooted r =
       says-any _ (length roots) (λ k. bare E (getD roots k 0) ≡ bare E r) (λ k. says-eqb (bare E (getD roots k 0)) (bare E r))
 
-  says-dies : (r : ℕ) → Says (Dies r) ((UsedOf y (L r) × (Rooted E roots r → ⊥)) × (StillNamed L x y r → ⊥))
+  -- 4.5: what dies is a y record that no root names, and no record that does not cross
+  pub says-dies : (r : ℕ) → Says (Dies r) ((UsedOf y (L r) × (Rooted E roots r → ⊥)) × (StillNamed L x y r → ⊥))
   unfolding dies
   says-dies r =
       let u : Says (isOf y (L r)) (UsedOf y (L r)) = record { yes = of-true y (L r); no = λ u. of-node y (u .is) } in

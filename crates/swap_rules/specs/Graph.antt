@@ -262,7 +262,7 @@ module _ {Terminal : ℕ → Type 0} {L L′ : ℕ → Node} {Root : ℕ → Typ
       go (inr c) = parent-stays c (by (dies (m .parent)))
 
   -- a record that is used before and does not die
-  pub lasting-named : (r : ℕ) → Nonterminal L r → dies r ≡ false → Root r ⊎ Named L′ r
+  lasting-named : (r : ℕ) → Nonterminal L r → dies r ≡ false → Root r ⊎ Named L′ r
   lasting-named r u f = go (by (isOf y (L r)))
     where
       go : (isOf y (L r) ≡ true) ⊎ (isOf y (L r) ≡ false) → Root r ⊎ Named L′ r

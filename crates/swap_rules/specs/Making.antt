@@ -2,7 +2,7 @@
 use Prim.Native.Nat.{ℕ, _≤_, _<_}
 use native.Mathlib.Omega.{arith}
 use mathlib.Core.Bool.{Bool, true, false}
-use mathlib.Core.List.{List, [], _∷_, List·Memᴰ·head, List·Memᴰ·tail, List·Memᴰ·not-nil, List·Memᴰ·cases-cons, List·Memᴰ·append-cases, Memᴰ·cast}
+use mathlib.Core.List.{List, [], _∷_, List·Memᴰ·head, List·Memᴰ·tail, List·Memᴰ·not-nil, List·Memᴰ·cases-cons, Memᴰ·cast}
 use mathlib.Core.Logic.{_≢_, _⊎_, inl, inr, ⊎-elim}
 use mathlib.Core.Path.{_≡_, refl, ap, ap₂, sym, _∙_, subst}
 use lib.Dec.{eqb}
@@ -10,9 +10,9 @@ use lib.ListN.{length, getD}
 use borrow.Author.Tests.{eqb-true, eq-eqb, ne-eqb, ltb-true, lt-ltb}
 use Rattle.lists.specs.First.{any, first-holds}
 use Rattle.lists.specs.Says.{Says, Some, says-itself, says-any, says-eqb, says-not, says-and, decided}
-use Rattle.lists.specs.Mem.{Mem, Apart, at-mem, append-apart}
+use Rattle.lists.specs.Mem.{Mem, Apart, at-mem}
 use Rattle.lists.specs.Keep.{keep, keep-mem, mem-keep}
-use Rattle.lists.specs.Which.{which, which-mem, mem-which, which-apart}
+use Rattle.lists.specs.Which.{which, which-mem, mem-which, both-mem, both-apart}
 use Rattle.lists.specs.Each.{each-mem, mem-each}
 use Rattle.lists.specs.Once.{once-mem, mem-once, once-apart}
 use Rattle.lists.specs.Places.{place-at}
@@ -197,26 +197,21 @@ module _ {E : Edition} {T : ℕ → Node} {N x y : ℕ} {roots : List ℕ} (R : 
   free-seen i b t = own-seen R T i b ∙ free-true (T i) t
 
   -- no record is free and dies
-  free-or-dies : (i : ℕ) → Mem i (which Free N) → Mem i (which (λ i. Dies (ref i)) N) → ⊥
-  free-or-dies i m k =
-      let z : (i < N) × (Free i ≡ true) = which-mem Free N i m in
-      clash (which-mem (λ i. Dies (ref i)) N i k .1) (free-lives R (ref i) (free-seen i (z .0) (z .1)))
+  free-or-dies : (i : ℕ) → i < N → Free i ≡ true → Dies (ref i) ≡ true → ⊥
+  free-or-dies i b t d = clash d (free-lives R (ref i) (free-seen i b t))
 
   pub slots-apart : Apart Slots
   unfolding slots
-  slots-apart = append-apart _ _ (which-apart Free N) (which-apart (λ i. Dies (ref i)) N) free-or-dies
+  slots-apart = both-apart Free (λ i. Dies (ref i)) N free-or-dies
 
   pub slot-in : (i : ℕ) → Mem i Slots → i < N
   unfolding slots
-  slot-in i m = ⊎-elim (λ k. which-mem Free N i k .0) (λ k. which-mem (λ i. Dies (ref i)) N i k .0) (List·Memᴰ·append-cases (which Free N) m)
+  slot-in i m = both-mem Free (λ i. Dies (ref i)) N i m .0
 
   -- a slot is free before the swap, or dies in it
   pub slot-open : (i : ℕ) → Mem i Slots → Open L Dies (ref i)
   unfolding slots
-  slot-open i m = ⊎-elim free-slot (λ k. inr (which-mem (λ i. Dies (ref i)) N i k .1)) (List·Memᴰ·append-cases (which Free N) m)
-    where
-      free-slot : Mem i (which Free N) → Open L Dies (ref i)
-      free-slot k = let z : (i < N) × (Free i ≡ true) = which-mem Free N i k in inl (free-seen i (z .0) (z .1))
+  slot-open i m = let z = both-mem Free (λ i. Dies (ref i)) N i m in ⊎-elim (λ t. inl (free-seen i (z .0) t)) inr (z .1)
 
   -- ---- the filled slots
 

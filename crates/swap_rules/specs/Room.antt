@@ -1,4 +1,4 @@
--- The two readings of room: the records used after the swap do not outnumber the table; needed is not above free and dying.
+-- The two readings of room: the records used after the swap do not outnumber the table; needed is not above free plus dying.
 use Prim.Native.Nat.{ℕ, _+_, _-_, _≤_, _<_}
 use native.Mathlib.Omega.{arith}
 use mathlib.Core.List.{List}
@@ -25,15 +25,27 @@ module _ (E : Edition) (T : ℕ → Node) (N x y : ℕ) (roots : List ℕ) where
   unfolding slots freeCount dyingCount
   slots-count = rw (length-append, which-length, which-length)
 
+  abbrev Then : ℕ
+  Then = usedAfterwards E T N x y roots
+
+  abbrev New : ℕ
+  New = needed E T N x y
+
+  abbrev Slots : ℕ
+  Slots = freeCount T N + dyingCount E T N x y roots
+
+  pub outnumbers : freeCount T N + dyingCount E T N x y roots < needed E T N x y → N < usedAfterwards E T N x y roots
+  unfolding usedAfterwards
+  outnumbers h = omega (arith, used-or-free T N)
+
+  pub inside-table : needed E T N x y ≤ freeCount T N + dyingCount E T N x y roots → usedAfterwards E T N x y roots ≤ N
+  unfolding usedAfterwards
+  inside-table h = omega (arith, used-or-free T N)
+
   -- the two readings are one
   pub fits-slots : fits E T N x y roots ≡ leb (needed E T N x y) (freeCount T N + dyingCount E T N x y roots)
-  unfolding fits usedAfterwards
-  fits-slots = either-side (freeCount T N + dyingCount E T N x y roots) (needed E T N x y) short enough
-    where
-      short : freeCount T N + dyingCount E T N x y roots < needed E T N x y
-          → leb (usedCount T N + needed E T N x y - dyingCount E T N x y roots) N ≡ leb (needed E T N x y) (freeCount T N + dyingCount E T N x y roots)
-      short h = lt-leb _ N (omega (arith, used-or-free T N)) ∙ sym (lt-leb (needed E T N x y) _ h)
-
-      enough : needed E T N x y ≤ freeCount T N + dyingCount E T N x y roots
-          → leb (usedCount T N + needed E T N x y - dyingCount E T N x y roots) N ≡ leb (needed E T N x y) (freeCount T N + dyingCount E T N x y roots)
-      enough h = le-leb _ N (omega (arith, used-or-free T N)) ∙ sym (le-leb (needed E T N x y) _ h)
+  unfolding fits
+  fits-slots =
+      either-side Slots New
+      (λ h. lt-leb Then N (outnumbers h) ∙ sym (lt-leb New Slots h))
+      (λ h. le-leb Then N (inside-table h) ∙ sym (le-leb New Slots h))

@@ -58,7 +58,7 @@ pub record SwapFits (E : Edition) (t : List Node) (roots ord : List ℕ) (k : �
   pub level : k + 1 < length ord
   pub fit : fits E (at t) (length t) (xAt ord k) (yAt ord k) roots ≡ true
 
--- there are slots enough, as needed is not above free and dying
+-- there are slots enough, as needed is not above free plus dying
 pub fitting : {E : Edition} {t : List Node} {roots ord : List ℕ} {k : ℕ} → SwapFits E t roots ord k
     → Fitting E (at t) (length t) (xAt ord k) (yAt ord k) roots
 fitting {E} {t} {roots} {ord} {k} S = record {

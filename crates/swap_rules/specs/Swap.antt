@@ -14,6 +14,7 @@ use Rattle.lists.specs.Keep.{keep}
 use Rattle.lists.specs.Which.{which}
 use Rattle.lists.specs.Each.{each}
 use Rattle.lists.specs.Once.{once}
+use Rattle.lists.specs.Places.{placeIn}
 use Rattle.diagrams.specs.Node.{Node, free, node, pick, at, ref, look}
 use Rattle.diagrams.specs.Edition.{Edition, plain, invert, oneRecord, turned, seen}
 use Rattle.swap_rules.specs.Record.{lowOf, highOf, isFreeNode, isUsedNode, isOf, same}
@@ -131,8 +132,7 @@ module _ (E : Edition) (T : ℕ → Node) (N x y : ℕ) where
     becomes r = node y (X (f00 (seen E T) y r) (f10 (seen E T) y r)) (X (f01 (seen E T) y r) (f11 (seen E T) y r))
 
   module _ (roots : List ℕ) where
-    -- 4.5: the y record of r dies: no root names it, and no record that keeps its references. Crossed and new records name no y record
-    -- from before, so that nothing names it any more as the record that it was
+    -- 4.5: the y record of r dies: no root names it, and no record that keeps its references. A crossing one lets go of the y records that it named
     unfoldable pub dies : ℕ → Bool
     dies r = isOf y (seen E T r) && not (any (λ k. oneRecord E (getD roots k 0) r) (length roots)) && not (any (stillNames E T x y r) N)
 
@@ -140,8 +140,8 @@ module _ (E : Edition) (T : ℕ → Node) (N x y : ℕ) where
     unfoldable pub dyingCount : ℕ
     dyingCount = count (λ i. dies (ref i)) N
 
-    -- 4.3, case 4: where new records go, one after the other: the records that were free before the swap, lowest number first,
-    -- and then those that die in this swap, lowest first
+    -- 4.3, case 4: where new records go, one after the other: into the records that are free before the swap, in rising number, and after these
+    -- into the records that die, in rising number
     unfoldable pub slots : List ℕ
     slots = which (λ i. isFreeNode (T i)) N ++ which (λ i. dies (ref i)) N
 
@@ -149,13 +149,13 @@ module _ (E : Edition) (T : ℕ → Node) (N x y : ℕ) where
     unfoldable pub usedAfterwards : ℕ
     usedAfterwards = usedCount T N + needed - dyingCount
 
-    -- 4.4: there is room exactly where these do not outnumber the table, which is where needed is not above free and dying (`fits-slots` of Room)
+    -- 4.4: there is room exactly where these do not outnumber the table, which is where needed is not above free plus dying (`fits-slots` of Room)
     unfoldable pub fits : Bool
     fits = leb usedAfterwards N
 
     -- which of the slots record i is; the number of slots for one that is none
     unfoldable pub slotIndex : ℕ → ℕ
-    slotIndex i = first (λ j. eqb (getD slots j 0) i) (length slots)
+    slotIndex = placeIn slots
 
     -- a new record goes to record i
     unfoldable pub filled : ℕ → Bool

@@ -136,7 +136,7 @@ module _ {E : Edition} {t : List Node} {roots ord : List ℕ} {k : ℕ} (S : Swa
         by-x inputs d true = refl
         by-x inputs d false = refl
 
-    -- a y record dies exactly where it is none afterwards: it is free then, or holds a new record
+    -- what becomes of what dies: it is exactly the y records that are none afterwards, but free or new records
     pub dies-exactly : (r : ℕ) → UsedOf y (L r) → Says (Dies r) (isOf y (L′ r) ≡ false)
     dies-exactly r u = go (step .kind r)
       where
@@ -150,7 +150,7 @@ module _ {E : Edition} {t : List Node} {roots ord : List ℕ} {k : ℕ} (S : Swa
             opened (inr t) = t
         go (gone t e) = record { yes = λ d. of-free y e; no = λ n. t }
 
-    -- step 3: a y record from before is free afterwards exactly where no root and no record names it then
+    -- 4.5: a y record from before is free afterwards exactly where no root and no record names it then
     pub freed-exactly : (r : ℕ) → UsedOf y (L r) → Says (isFreeNode (L′ r)) ((Root r → ⊥) × (Named L′ r → ⊥))
     unfolding isFreeNode
     freed-exactly r u = record { yes = λ e. (λ m. used-then e (D′ .graph .rooted r m), λ m. used-then e (named-then m)); no = λ w. unnamed w (L′ r) refl }

@@ -1,4 +1,4 @@
--- What the reckoning, the image and the table hold at each way out, over plain variables.
+-- What the answer and the table hold at each way out, over plain variables.
 use Prim.Native.Nat.{ℕ, _+_, _*_, _≤_, _<_}
 use mathlib.Core.Bool.{Bool, true, false, cond}
 use mathlib.Core.List.{List, _++_, append-nil}

@@ -1,5 +1,5 @@
 -- A fitting swap of a stored table, over its bytes: it passes every check again, under the exchanged order, and every root keeps its value.
-use Prim.Native.Nat.{ℕ, _+_, _-_, _*_, _%_, _<_}
+use Prim.Native.Nat.{ℕ, _+_, _*_, _%_, _<_}
 use native.Mathlib.Omega.{arith}
 use mathlib.Core.Bool.{Bool, true, false, not}
 use mathlib.Core.List.{List}
@@ -28,9 +28,9 @@ use Rattle.checks.specs.Theorems.{accepts}
 use Rattle.checks.specs.declared.CheckAnswer.the-variants.{Accepted}
 use Rattle.diagrams.specs.Edition.{plain}
 use Rattle.swap_rules.specs.Record.{isUsedNode, isFreeNode, UsedOf, Behind, behind}
-use Rattle.swap_rules.specs.Swap.{xAt, yAt, crosses, dies, filled, usedCount, swapped}
+use Rattle.swap_rules.specs.Swap.{xAt, yAt, crosses, dies, filled, usedCount, usedAfterwards, swapped}
 use Rattle.swap_records.specs.Kinds as kinds
-use Rattle.swap_rules.specs.Room.{used-or-free}
+use Rattle.swap_rules.specs.Room as room
 use Rattle.swap_rules.specs.Stored.{plain-written, SwapFits, length-swapped}
 use Rattle.swap_rules.specs.Theorem.{Cofactors, swap-diagram, swap-bryant, swap-root, swap-reads, swap-else, swap-count, cofactors, freed-exactly}
 use Rattle.swap_preparing.specs.Table.{neededIn, freeIn, dyingIn, fitsIn, tableAfter}
@@ -56,14 +56,19 @@ used-is : (t : List ℕ) → used t ≡ usedCount (at (decode t)) (records t)
 unfolding usedCount
 used-is t = count-agrees (λ i. isUsedNode (at (decode t) i)) (isUsed t) (records t) (λ i b. ap not (sym (kinds.free-is t i b)))
 
--- the two readings of room, over the bytes: a table of N records has no slot for each new one where more than N would be used afterwards, and only there
-pub outnumbers : (t r : List ℕ) (x y : ℕ) → freeIn t + dyingIn t r x y < neededIn t x y → records t < used t + neededIn t x y - dyingIn t r x y
-outnumbers t r x y h = rw (used-is t) (omega (arith, used-or-free (at (decode t)) (records t)))
+-- the two readings of room, over the bytes: there are not slots enough exactly where more records would be used afterwards than the table has
+module _ (t r : List ℕ) (x y : ℕ) where
+  pub outnumbers : freeIn t + dyingIn t r x y < neededIn t x y → records t + dyingIn t r x y < used t + neededIn t x y
+  unfolding usedAfterwards
+  outnumbers h = rw (used-is t) (omega (arith, room.outnumbers plain (at (decode t)) (records t) x y (rootsOf r) h))
 
-pub lacks-slots : (t r : List ℕ) (x y : ℕ) → records t < used t + neededIn t x y - dyingIn t r x y → freeIn t + dyingIn t r x y < neededIn t x y
-lacks-slots t r x y h =
-    let l : records t < usedCount (at (decode t)) (records t) + neededIn t x y - dyingIn t r x y = rw (used-is t) at h in
-    omega (arith, used-or-free (at (decode t)) (records t))
+  pub lacks-slots : records t + dyingIn t r x y < used t + neededIn t x y → freeIn t + dyingIn t r x y < neededIn t x y
+  unfolding usedAfterwards
+  lacks-slots h =
+      let l : records t + dyingIn t r x y < usedCount (at (decode t)) (records t) + neededIn t x y = rw (used-is t) at h in
+      either-side (freeIn t + dyingIn t r x y) (neededIn t x y)
+      (λ s. s)
+      (λ s. absurd (omega (arith, room.inside-table plain (at (decode t)) (records t) x y (rootsOf r) s)))
 
 -- ---- a fitting swap of a table that is accepted
 
@@ -171,7 +176,7 @@ module _ (t r o : List ℕ) (k : ℕ) (usable : Usable t r o) (level : k + 1 < l
   pub swap-cofactors : (q : ℕ) → crosses (lookup t) x y q ≡ true → Cofactors (lookup t) (lookup t′) (length o) x y q
   swap-cofactors q c = rw decode-after (cofactors swap-fits before q c)
 
-  -- step 3: a y record from before is free afterwards exactly where no root names it, and no used record of the table afterwards
+  -- 4.5: a y record from before is free afterwards exactly where no root names it, and no used record of the table afterwards
   pub swap-frees-exactly : (i : ℕ) → i < records t → variableAt t i ≡ y
       → Says (isFree t′ i) ((NamedByRoot r (i + 2) → ⊥) × (NamedByRecord t′ (i + 2) → ⊥))
   unfolding look

@@ -1,4 +1,4 @@
--- What Swap answers, and when: made where needed is not above free and dying, no room where it is, refused where a check fails first.
+-- What Swap answers, and when: made where needed is not above free plus dying, no room where it is, refused where a check fails first.
 use Prim.Native.Nat.{ℕ, _+_, _-_, _≤_, _<_}
 use native.Mathlib.Omega.{arith}
 use mathlib.Core.Bool.{Bool, true, false}
@@ -11,10 +11,8 @@ use Rattle.lists.specs.Apart.{apart}
 use Rattle.lists.specs.Says.{Says}
 use Rattle.orders.specs.Exchange.{exchange}
 use Rattle.diagrams.specs.Layout.{records, rootCount, rootAt, variableAt, isFree}
-use Rattle.diagrams.specs.Edition.{plain}
 use Rattle.diagrams.specs.Node.{at}
-use Rattle.diagrams.specs.Decode.{decode}
-use Rattle.diagrams.specs.Lookup.{rootsOf, lookup}
+use Rattle.diagrams.specs.Lookup.{lookup}
 use Rattle.diagrams.specs.Value.{value}
 use Rattle.checks.specs.Stages.{AllPass, also, both-rows, FailsFirst, stageAt, refusal, verdictOf, passed-only, clear-only, refused-if, refused-only}
 use Rattle.checks.specs.Stages.{row-passes, place-passes}
@@ -25,9 +23,8 @@ use Rattle.checks.specs.declared.Refusal.{Refusal}
 use Rattle.checks.specs.declared.Verdict.{Verdict}
 use Rattle.checks.specs.declared.Verdict.the-variants as verdict
 use Rattle.swap_rules.specs.Swap.{xAt, yAt, crosses}
-use Rattle.swap_rules.specs.Room.{fits-slots}
 use Rattle.swap_rules.specs.Theorem.{Cofactors}
-use Rattle.swap_preparing.specs.Table.{neededIn, freeIn, fitsIn, dyingIn, tableAfter}
+use Rattle.swap_preparing.specs.Table.{neededIn, freeIn, fitsIn, dyingIn, tableAfter, fit-is}
 use Rattle.swaps.specs.Outcome.{lack, wayOf, isClear, way-fits, way-clear, way-lacks}
 use Rattle.swaps.specs.Outcome.{noLevel, swapStages, Swapped, swapAfter, swapJudged, swapOf, SwapOutcome}
 use Rattle.swaps.specs.Bytes.{swap-usable, swap-root-value, swap-cofactors, swap-used, swap-frees-exactly}
@@ -48,26 +45,22 @@ abbrev pub Dying : List ℕ → List ℕ → List ℕ → ℕ → ℕ
 Dying t r o k = dyingIn t r (xAt o k) (yAt o k)
 
 module _ (t r o : List ℕ) (k : ℕ) where
-  -- the records that new ones may take
-  abbrev Slots : ℕ
-  Slots = freeIn t + Dying t r o k
-
-  fit-is : fitsIn t r (xAt o k) (yAt o k) ≡ leb (Needed t o k) Slots
-  fit-is = fits-slots plain (at (decode t)) (records t) (xAt o k) (yAt o k) (rootsOf r)
+  by-slots : fitsIn t r (xAt o k) (yAt o k) ≡ leb (Needed t o k) (freeIn t + Dying t r o k)
+  by-slots = fit-is t r (xAt o k) (yAt o k)
 
   pub fits-then : isClear (wayOf t r o k) ≡ true → Needed t o k ≤ freeIn t + Dying t r o k
-  fits-then e = leb-true (Needed t o k) Slots (sym fit-is ∙ sym (way-fits t r o k) ∙ e)
+  fits-then e = leb-true (Needed t o k) (freeIn t + Dying t r o k) (sym by-slots ∙ sym (way-fits t r o k) ∙ e)
 
   pub clear-if-fits : Needed t o k ≤ freeIn t + Dying t r o k → wayOf t r o k ≡ way.Clear
   unfolding wayOf
-  clear-if-fits h = rw (fit-is ∙ le-leb (Needed t o k) Slots h)
+  clear-if-fits h = rw (by-slots ∙ le-leb (Needed t o k) (freeIn t + Dying t r o k) h)
 
   pub lacks-if : freeIn t + Dying t r o k < Needed t o k → wayOf t r o k ≡ way.NoRoom (lack k (Needed t o k) (freeIn t))
   unfolding wayOf
-  lacks-if h = rw (fit-is ∙ lt-leb (Needed t o k) Slots h)
+  lacks-if h = rw (by-slots ∙ lt-leb (Needed t o k) (freeIn t + Dying t r o k) h)
 
   pub lacks-then : (l : Lack) → wayOf t r o k ≡ way.NoRoom l → (freeIn t + Dying t r o k < Needed t o k) × (l ≡ lack k (Needed t o k) (freeIn t))
-  lacks-then l e = let (f, q) = way-lacks t r o k l e in (leb-false (Needed t o k) Slots (sym fit-is ∙ f), q)
+  lacks-then l e = let (f, q) = way-lacks t r o k l e in (leb-false (Needed t o k) (freeIn t + Dying t r o k) (sym by-slots ∙ f), q)
 
 -- ---- Swap of a table that is accepted, at two levels of its order
 
@@ -90,12 +83,12 @@ module _ (t r o : List ℕ) (k : ℕ) (usable : Usable t r o) (level : k + 1 < l
   pub swap-stuck : (l : Lack) → wayOf t r o k ≡ way.NoRoom l → swapOf t r o k ≡ record { answer = NoRoom l; table = t; order = o }
   swap-stuck l e = swap-is ∙ ap (swapAfter t r o k) e
 
-  -- made where needed is not above free and dying; `made-only` says that it is made in no other case
+  -- made where needed is not above free plus dying; `made-only` says that it is made in no other case
   pub swap-made : Needed t o k ≤ freeIn t + Dying t r o k
       → swapOf t r o k ≡ record { answer = Made; table = tableAfter t r (xAt o k) (yAt o k); order = exchange o k }
   swap-made h = swap-is ∙ ap (swapAfter t r o k) (clear-if-fits t r o k h)
 
-  -- no room where needed is above both, with needed and free; `lacks-only` says that it is given in no other case
+  -- no room where it is above, with needed and free; `lacks-only` says that it is given in no other case
   pub swap-lacks : freeIn t + Dying t r o k < Needed t o k
       → swapOf t r o k ≡ record { answer = NoRoom (lack k (Needed t o k) (freeIn t)); table = t; order = o }
   swap-lacks h = swap-stuck (lack k (Needed t o k) (freeIn t)) (lacks-if t r o k h)
@@ -157,7 +150,7 @@ module _ (t r o : List ℕ) (k : ℕ) where
         → Cofactors (lookup t) (lookup (swapOf t r o k .table)) (length o) (xAt o k) (yAt o k) q
     made-cofactors q c = let w = made-only made in rw made-is (swap-cofactors t r o k (w .0 .0) (w .0 .1) fit q c)
 
-    -- step 3: a y record from before is free afterwards exactly where no root and, afterwards, no used record names it
+    -- 4.5: a y record from before is free afterwards exactly where no root and, afterwards, no used record names it
     pub made-frees : (i : ℕ) → i < records t → variableAt t i ≡ yAt o k
         → Says (isFree (swapOf t r o k .table) i) ((NamedByRoot r (i + 2) → ⊥) × (NamedByRecord (swapOf t r o k .table) (i + 2) → ⊥))
     made-frees i b y = let w = made-only made in rw made-is (swap-frees-exactly t r o k (w .0 .0) (w .0 .1) fit i b y)

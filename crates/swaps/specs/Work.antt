@@ -1,4 +1,4 @@
--- How the code of a swap goes: the reckoning's answer, the image of the table, and the parts of the entry.
+-- How the code of a swap goes: the two levels, what stands in the way, and the parts of the entry.
 use Prim.Native.Nat.{ℕ, _+_, _<_}
 use mathlib.Core.Bool.{cond}
 use mathlib.Core.List.{List}

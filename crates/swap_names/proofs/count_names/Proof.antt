@@ -7,9 +7,7 @@ pub count-names-spec : {M : Type 1} → statement M
 count-names-spec =
     tie.close
     (tie.spec
-    (λ c κs. search needs)
+    (λ c κs. search (room-roots, needs))
+    (λ c κs. search (room-others, needs))
     (λ c. search needs)
-    (λ c κs. search room-roots)
-    (λ c. search needs)
-    (λ c κs. search room-others)
-    (λ c. search counted))
+    (λ c. search (counted, needs)))

@@ -10,7 +10,7 @@ dying c =
     let counted = left .before .before .before .before in
     let lent = counted .before .before .before .before .before .before in
     let start = lent .before .before .before .before .before in
-    dying-counts (then .add-dying .ensures) (counted .reckon .ensures .0) (start .pre .0 .1) (counted .reckon .ensures .1)
+    dying-counts (then .all-slots .ensures) (counted .reckon .ensures .0) (start .pre .0 .1) (counted .reckon .ensures .1)
 
 pub count-room-spec : {M : Type 1} → statement M
 count-room-spec =

@@ -11,7 +11,7 @@ lacking c =
     let all = counted .before .before .before .before .before .before in
     let lent = all .before .before .before .before .before in
     let start = lent .before .before .before .before .before in
-    no-room (counted .reckon .ensures .0) (all .add-dying .ensures) (start .pre .0 .0 .1) (counted .reckon .ensures .1) (search needs)
+    no-room (counted .reckon .ensures .0) (all .all-slots .ensures) (start .pre .0 .0 .1) (counted .reckon .ensures .1) (search needs)
 
 fill : tie.Need-fill-requires
 fill c κs =
@@ -20,7 +20,7 @@ fill c κs =
     let all = counted .before .before .before .before .before .before in
     let lent = all .before .before .before .before .before in
     let start = lent .before .before .before .before .before in
-    fillable (counted .reckon .ensures .0) (all .add-dying .ensures) (start .pre .0 .0 .1) (counted .reckon .ensures .1) (start .pre .0 .1 .1)
+    fillable (counted .reckon .ensures .0) (all .all-slots .ensures) (start .pre .0 .0 .1) (counted .reckon .ensures .1) (start .pre .0 .1 .1)
     (fits .if1 .left) (search needs)
 
 filled : tie.Need-returns-2
@@ -31,7 +31,7 @@ filled c =
     let all = counted .before .before .before .before .before .before in
     let lent = all .before .before .before .before .before in
     let start = lent .before .before .before .before .before in
-    prepared (counted .reckon .ensures .0) (all .add-dying .ensures) (start .pre .0 .0 .1) (counted .reckon .ensures .1) (then .fill .ensures)
+    prepared (counted .reckon .ensures .0) (all .all-slots .ensures) (start .pre .0 .0 .1) (counted .reckon .ensures .1) (then .fill .ensures)
 
 pub fill-image-spec : {M : Type 1} → statement M
 fill-image-spec =

@@ -1,5 +1,5 @@
 use borrow.Author.Needs.{needs}
-use Rattle.swap_result.specs.Image.{copies, copied-living}
+use Rattle.swap_result.specs.Image.{dying-inside, copied-living}
 use Rattle.swap_result.proofs.copy_living.Statement.{statement}
 use Rattle.swap_result.proofs.copy_living.Tie as tie
 
@@ -9,6 +9,6 @@ copy-living-spec =
     (tie.spec
     (λ c. search needs)
     (λ c κs. search needs)
-    (λ c κs. search copies)
+    (λ c κs. search (dying-inside, needs))
     (λ c. search needs)
     (λ c. search copied-living))

@@ -12,7 +12,7 @@ add-all-spec =
     (tie.spec
     (λ table y names free slots₀ m k₀ i₀ slots k i. Adding table (y .0) names i slots k × (m ≡ records table))
     (λ table y names free slots₀ m k₀ i₀ slots k i. m - i)
-    (λ c κs. search (adding, needs))
+    (λ c κs. search needs)
     (λ c. search (adding, needs))
     (λ c κs. search (adding, needs))
     (λ c. search (adding, needs))

@@ -10,7 +10,7 @@ returns c =
     let low = then .before .before .before in
     let four = low .before .before in
     let start = four .before .before .before .before .before in
-    answered (start .pre) (four .four .ensures) (low .note .ensures) (search asking) (then .with .ensures) (high .note2 .ensures)
+    answered (start .pre) (four .four .ensures) (low .note .ensures) (search asking) (then .with-needed .ensures) (high .note2 .ensures)
 
 pub note-both-spec : {M : Type 1} → statement M
 note-both-spec =

@@ -1,10 +1,10 @@
 use borrow.Author.Needs.{needs}
 use Rattle.swap_reckoning.specs.Reckoned.{dying-added}
-use Rattle.swap_reckoning.proofs.add_dying.Statement.{statement}
-use Rattle.swap_reckoning.proofs.add_dying.Tie as tie
+use Rattle.swap_reckoning.proofs.all_slots.Statement.{statement}
+use Rattle.swap_reckoning.proofs.all_slots.Tie as tie
 
-pub add-dying-spec : {M : Type 1} → statement M
-add-dying-spec =
+pub all-slots-spec : {M : Type 1} → statement M
+all-slots-spec =
     tie.close
     (tie.spec
     (λ c κs. search needs)
