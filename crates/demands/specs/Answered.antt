@@ -1,6 +1,6 @@
 -- Demand 1: every entry answers on any bytes, with one outcome. A refusal has the number of the first check that fails and the first place where it
--- does, and changes nothing. There is no room exactly where the records used afterwards would outnumber the table, which is where more are needed than
--- are free or die; and then nothing changes either.
+-- does, and changes nothing. There is no room exactly where more records would be used afterwards than the table has, which is where more are needed
+-- than are free or die; and then nothing changes either.
 --
 -- `checkOf`, `readOf`, `partOf`, `swapOf` and `runOf` are the outcomes that the contracts of the entries cite. t is the table, r the roots, o the order
 -- and g the target, each as the list of its bytes. An entry's checks are a list: `checkStages`, `readStages`, `swapStages`, `runStages`.

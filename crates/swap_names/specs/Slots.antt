@@ -14,13 +14,13 @@ use Rattle.lists.specs.Ranks.{count-before}
 use Rattle.lists.specs.Truth.{clash, and-left}
 use Rattle.lists.specs.Which.{which, which-length, which-agrees, both-mem, both-apart}
 use Rattle.diagrams.specs.Edition.{plain}
-use Rattle.diagrams.specs.Layout.{mostRecords, records, isFree, isUsed}
+use Rattle.diagrams.specs.Layout.{mostRecords, records, isFree}
 use Rattle.diagrams.specs.Node.{at}
 use Rattle.diagrams.specs.Decode.{decode}
 use Rattle.diagrams.specs.Lookup.{rootsOf}
 use Rattle.check_sizes.specs.Sizes.{TableSizes}
 use Rattle.swap_rules.specs.Swap.{dies, slots}
-use Rattle.swap_records.specs.Kinds.{of-is, free-is, ofAt}
+use Rattle.swap_records.specs.Kinds.{used-of, free-is, ofAt}
 use Rattle.swap_records.specs.Listed.{RoomFor, FreeListed, Inside, Listing, listing-goes-on, listing-small, listing-passes, listing-goes, listing-holds}
 use Rattle.swap_records.specs.declared.Pair.{Pair}
 use Rattle.swap_names.specs.Naming.{unnamed}
@@ -38,16 +38,20 @@ pub slots-which : (t r : List ℕ) (p : Pair) → slotsIn t r p ≡ which (isFre
 unfolding slots
 slots-which t r p = ap (λ l. l ++ which (diesIn t r p) (records t)) (which-agrees _ _ (records t) (free-is t))
 
--- what dies is a used record
-dying-used : (t r : List ℕ) (p : Pair) (i : ℕ) → i < records t → diesIn t r p i ≡ true → isUsed t i ≡ true
+-- a free record is none of v
+free-or-of : (t : List ℕ) (v i : ℕ) → i < records t → isFree t i ≡ true → ofAt t v i ≡ true → ⊥
+free-or-of t v i l f e = clash f (not-true (isFree t i) (used-of t v i l e))
+
+-- what dies is a y record
+dying-of : (t r : List ℕ) (p : Pair) (i : ℕ) → diesIn t r p i ≡ true → ofAt t (p .y .0) i ≡ true
 unfolding dies
-dying-used t r p i l e = and-left (isUsed t i) _ (sym (of-is t (p .y .0) i l) ∙ and-left (ofAt t (p .y .0) i) _ (and-left (ofAt t (p .y .0) i && _) _ e))
+dying-of t r p i e = and-left (ofAt t (p .y .0) i) _ (and-left (ofAt t (p .y .0) i && _) _ e)
 
 -- no record stands there twice: a free one does not die
 pub slots-apart : (t r : List ℕ) (p : Pair) → Apart (slotsIn t r p)
 slots-apart t r p =
     rw (slots-which t r p)
-    (both-apart (isFree t) (diesIn t r p) (records t) (λ i b f d. clash f (not-true (isFree t i) (dying-used t r p i b d))))
+    (both-apart (isFree t) (diesIn t r p) (records t) (λ i b f d. free-or-of t (p .y .0) i b f (dying-of t r p i d)))
 
 -- they are records of the table
 pub slots-inside : {t r : List ℕ} {p : Pair} {list : List ℕ} {k : ℕ} → SlotsListed t r p list k → Inside t list k
@@ -79,12 +83,9 @@ pub record Adding (t : List ℕ) (y : ℕ) (names : List ℕ) (i : ℕ) (list : 
 pub record Added (t : List ℕ) (y : ℕ) (names list : List ℕ) (k : ℕ) : Type 0 where
   pub held : Holds (which (isFree t) (records t) ++ which (dyingBy t y names) (records t)) list k
 
--- a free record is none of y
 free-or-dying : (t : List ℕ) (y : ℕ) (names : List ℕ) (i : ℕ) → i < records t → isFree t i ≡ true → dyingBy t y names i ≡ true → ⊥
 unfolding dyingBy
-free-or-dying t y names i l f e =
-    let u : isUsed t i ≡ true = and-left (isUsed t i) _ (sym (of-is t y i l) ∙ and-left (ofAt t y i) _ e) in
-    clash f (not-true (isFree t i) u)
+free-or-dying t y names i l f e = free-or-of t y i l f (and-left (ofAt t y i) _ e)
 
 module _ {t : List ℕ} {y : ℕ} {names list : List ℕ} where
   pub adding-begins : {k : ℕ} → NamesFor t names → RoomFor t list → FreeListed t list k → Adding t y names 0 list k

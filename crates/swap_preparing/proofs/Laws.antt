@@ -20,7 +20,7 @@ use Rattle.swap_reckoning.specs.Searching.{withNeeded}
 use Rattle.swap_reckoning.specs.Reckoned.{Reckoned, FreeSlots, AllSlots, needed-is, free-is}
 use Rattle.swap_reckoning.specs.declared.Counts.{Counts}
 use Rattle.swap_result.specs.Image.{SlotsFor, Fillable, Filled, free-first}
-use Rattle.swap_preparing.specs.Table.{neededIn, freeIn, dyingIn, fitsIn, tableAfter, fit-is}
+use Rattle.swap_preparing.specs.Table.{neededIn, freeIn, dyingIn, fitsIn, tableAfter, fit-by-slots}
 use Rattle.swap_preparing.specs.Prepared.{CountsOf, Preparing, Prepared}
 
 -- ---- room
@@ -30,12 +30,17 @@ listed-fit : {t r : List ℕ} {p : Pair} {slots : List ℕ} {k n : ℕ} → Slot
     → leb n k ≡ fitsIn t r (p .x .0) (p .y .0)
 listed-fit {t} {r} {p} S e =
     ap₂ leb e (sym (length-held (S .held)) ∙ slots-count plain (at (decode t)) (records t) (p .x .0) (p .y .0) (rootsOf r))
-    ∙ sym (fit-is t r (p .x .0) (p .y .0))
+    ∙ sym (fit-by-slots t r (p .x .0) (p .y .0))
 
 -- the free ones suffice
 free-fit : (t r : List ℕ) (p : Pair) {n f : ℕ} → n ≡ neededIn t (p .x .0) (p .y .0) → f ≡ freeIn t → n ≤ f → leb n f ≡ fitsIn t r (p .x .0) (p .y .0)
-free-fit t r p {n} {f} e g h =
-    le-leb n f h ∙ sym (fit-is t r (p .x .0) (p .y .0) ∙ le-leb (neededIn t (p .x .0) (p .y .0)) (freeIn t + dyingIn t r (p .x .0) (p .y .0)) (omega arith))
+free-fit t r p {n} {f} e g h = le-leb n f h ∙ sym (fit-by-slots t r (p .x .0) (p .y .0) ∙ le-leb needed slots (omega arith))
+  where
+    needed : ℕ
+    needed = neededIn t (p .x .0) (p .y .0)
+
+    slots : ℕ
+    slots = freeIn t + dyingIn t r (p .x .0) (p .y .0)
 
 -- ---- a swap that is asked for
 

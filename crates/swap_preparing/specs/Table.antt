@@ -24,7 +24,7 @@ freeIn t = freeCount (at (decode t)) (records t)
 abbrev pub dyingIn : List ℕ → List ℕ → ℕ → ℕ → ℕ
 dyingIn t r x y = dyingCount plain (at (decode t)) (records t) x y (rootsOf r)
 
--- there is room unless the records used after it would outnumber the table
+-- there is room unless more records would be used after it than the table has
 abbrev pub fitsIn : List ℕ → List ℕ → ℕ → ℕ → Bool
 fitsIn t r x y = fits plain (at (decode t)) (records t) x y (rootsOf r)
 
@@ -33,5 +33,5 @@ unfoldable pub tableAfter : List ℕ → List ℕ → ℕ → ℕ → List ℕ
 tableAfter t r x y = encode (swapped plain (decode t) x y (rootsOf r))
 
 -- 4.4, the other reading of room
-pub fit-is : (t r : List ℕ) (x y : ℕ) → fitsIn t r x y ≡ leb (neededIn t x y) (freeIn t + dyingIn t r x y)
-fit-is t r x y = fits-slots plain (at (decode t)) (records t) x y (rootsOf r)
+pub fit-by-slots : (t r : List ℕ) (x y : ℕ) → fitsIn t r x y ≡ leb (neededIn t x y) (freeIn t + dyingIn t r x y)
+fit-by-slots t r x y = fits-slots plain (at (decode t)) (records t) x y (rootsOf r)

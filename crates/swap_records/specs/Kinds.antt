@@ -2,8 +2,9 @@
 use Prim.Native.Nat.{ℕ, _<_}
 use mathlib.Core.Bool.{Bool, true, false, cond, not, _&&_}
 use mathlib.Core.List.{List}
-use mathlib.Core.Path.{_≡_, refl, ap, _∙_}
+use mathlib.Core.Path.{_≡_, refl, ap, sym, _∙_}
 use lib.Dec.{eqb}
+use Rattle.lists.specs.Truth.{and-left}
 use Rattle.diagrams.specs.Layout.{records, variableAt, lowAt, highAt, isFree, isUsed}
 use Rattle.diagrams.specs.Node.{free, node, pick, at, ref, look}
 use Rattle.diagrams.specs.Decode.{nodeAt, decode}
@@ -33,6 +34,10 @@ of-is t v i h = rw (at-decode t i h) (go (isFree t i))
     go : (u : Bool) → isOf v (cond u free (node (variableAt t i) (lowAt t i) (highAt t i))) ≡ (not u && eqb (variableAt t i) v)
     go true = refl
     go false = refl
+
+-- a record of v is used
+pub used-of : (t : List ℕ) (v i : ℕ) → i < records t → ofAt t v i ≡ true → isUsed t i ≡ true
+used-of t v i h e = and-left (isUsed t i) _ (sym (of-is t v i h) ∙ e)
 
 -- record i is free, in the bytes and in the records
 pub free-is : (t : List ℕ) (i : ℕ) → i < records t → isFreeNode (at (decode t) i) ≡ isFree t i

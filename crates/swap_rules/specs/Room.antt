@@ -1,4 +1,4 @@
--- The two readings of room: the records used after the swap do not outnumber the table; needed is not above free plus dying.
+-- The two readings of room: no more records are used after the swap than the table has; needed is not above free plus dying.
 use Prim.Native.Nat.{ℕ, _+_, _-_, _≤_, _<_}
 use native.Mathlib.Omega.{arith}
 use mathlib.Core.List.{List}

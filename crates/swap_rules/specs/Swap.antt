@@ -149,7 +149,7 @@ module _ (E : Edition) (T : ℕ → Node) (N x y : ℕ) where
     unfoldable pub usedAfterwards : ℕ
     usedAfterwards = usedCount T N + needed - dyingCount
 
-    -- 4.4: there is room exactly where these do not outnumber the table, which is where needed is not above free plus dying (`fits-slots` of Room)
+    -- 4.4: there is room exactly where they are no more than the table has, which is where needed is not above free plus dying (`fits-slots` of Room)
     unfoldable pub fits : Bool
     fits = leb usedAfterwards N
 

@@ -1,5 +1,5 @@
 -- What the answer and the table hold at each way out, over plain variables.
-use Prim.Native.Nat.{ℕ, _+_, _*_, _≤_, _<_}
+use Prim.Native.Nat.{ℕ, _*_, _≤_, _<_}
 use mathlib.Core.Bool.{Bool, true, false, cond}
 use mathlib.Core.List.{List, _++_, append-nil}
 use mathlib.Core.Path.{_≡_, refl, ap, ap₂, sym, _∙_}
@@ -11,16 +11,13 @@ use lib.ListN.{length, getD, set, take, drop-of-length-le}
 use Rattle.lists.specs.Apart.{apart}
 use Rattle.lists.specs.Copy.{copied, copied-first}
 use Rattle.lists.specs.Fold.{Writes, writes-end}
-use Rattle.diagrams.specs.Edition.{plain}
 use Rattle.diagrams.specs.Layout.{recordSize, mostRecords}
-use Rattle.diagrams.specs.Node.{at}
 use Rattle.check_sizes.specs.Sizes.{TableSizes}
 use Rattle.swap_records.specs.declared.Pair.{Pair}
-use Rattle.swap_reckoning.specs.Reckoned.{needed-is, free-is}
 use Rattle.swap_reckoning.specs.declared.Counts.{Counts}
 use Rattle.swap_preparing.specs.Table.{tableAfter}
-use Rattle.swaps.specs.Outcome.{lack, wayOf, TableSwapped}
 use Rattle.swap_preparing.specs.Prepared.{CountsOf, Prepared}
+use Rattle.swaps.specs.Outcome.{lack, wayOf, TableSwapped}
 use Rattle.swaps.specs.Work.{PairAt, wayBy}
 use Rattle.swaps.specs.declared.Lack.{Lack}
 use Rattle.swaps.specs.declared.Way.{Way}

@@ -24,7 +24,7 @@ use Rattle.checks.specs.declared.Verdict.{Verdict}
 use Rattle.checks.specs.declared.Verdict.the-variants as verdict
 use Rattle.swap_rules.specs.Swap.{xAt, yAt, crosses}
 use Rattle.swap_rules.specs.Theorem.{Cofactors}
-use Rattle.swap_preparing.specs.Table.{neededIn, freeIn, fitsIn, dyingIn, tableAfter, fit-is}
+use Rattle.swap_preparing.specs.Table.{neededIn, freeIn, fitsIn, dyingIn, tableAfter, fit-by-slots}
 use Rattle.swaps.specs.Outcome.{lack, wayOf, isClear, way-fits, way-clear, way-lacks}
 use Rattle.swaps.specs.Outcome.{noLevel, swapStages, Swapped, swapAfter, swapJudged, swapOf, SwapOutcome}
 use Rattle.swaps.specs.Bytes.{swap-usable, swap-root-value, swap-cofactors, swap-used, swap-frees-exactly}
@@ -46,7 +46,7 @@ Dying t r o k = dyingIn t r (xAt o k) (yAt o k)
 
 module _ (t r o : List ℕ) (k : ℕ) where
   by-slots : fitsIn t r (xAt o k) (yAt o k) ≡ leb (Needed t o k) (freeIn t + Dying t r o k)
-  by-slots = fit-is t r (xAt o k) (yAt o k)
+  by-slots = fit-by-slots t r (xAt o k) (yAt o k)
 
   pub fits-then : isClear (wayOf t r o k) ≡ true → Needed t o k ≤ freeIn t + Dying t r o k
   fits-then e = leb-true (Needed t o k) (freeIn t + Dying t r o k) (sym by-slots ∙ sym (way-fits t r o k) ∙ e)
