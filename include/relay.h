@@ -6,6 +6,8 @@
  *   roots   up to RELAY_MOST_ROOTS references of RELAY_ROOT_SIZE bytes, one for each output.
  *   order   n bytes, n from 1 to RELAY_MOST_VARIABLES: byte k is the variable at level k; level 0 is the top.
  *   target  n bytes, the order that a run goes towards.
+ *   labels  two lists, the site's own and the factory's: up to RELAY_MOST_LABELS records of RELAY_LABEL_SIZE bytes each, byte 0 the
+ *           variable, then RELAY_TEXT_SIZE bytes of text, padded with zeros.
  * A reference is RELAY_FALSE, RELAY_TRUE, or RELAY_FIRST_RECORD + i for record i. A record takes its low reference where its
  * variable's input is 0, its high one where it is 1.
  *
@@ -23,7 +25,7 @@
 #include <stddef.h>
 #include <stdint.h>
 
-#define RELAY_VERSION 4u
+#define RELAY_VERSION 5u
 
 /* Sizes and limits. */
 #define RELAY_RECORD_SIZE 8u
@@ -31,6 +33,9 @@
 #define RELAY_MOST_RECORDS 4096u
 #define RELAY_MOST_ROOTS 64u
 #define RELAY_MOST_VARIABLES 32u
+#define RELAY_LABEL_SIZE 16u
+#define RELAY_TEXT_SIZE 15u
+#define RELAY_MOST_LABELS 64u
 
 /* The variable of a free record; the references of the constants and of record 0. */
 #define RELAY_FREE 255u
@@ -68,11 +73,17 @@
 #define RELAY_REFUSED_LEVEL 12u    /* no such level; the level asked for */
 #define RELAY_REFUSED_PLAN 13u     /* no such plan; the number given */
 
+/* The first number of a label's answer: which list it is a part of. */
+#define RELAY_NO_LABEL 0u
+#define RELAY_SITE_LABEL 1u
+#define RELAY_FACTORY_LABEL 2u
+
 /* How many numbers the longest answer of each call has. */
 #define RELAY_CHECK_NUMBERS 2u
 #define RELAY_READ_NUMBERS 2u
 #define RELAY_SHOW_NUMBERS 2u
 #define RELAY_COUNT_NUMBERS 2u
+#define RELAY_LABEL_NUMBERS 3u
 #define RELAY_SWAP_NUMBERS 4u
 #define RELAY_RUN_NUMBERS 6u
 #define RELAY_MOST_NUMBERS 6u
@@ -124,6 +135,18 @@ size_t relay_count(const uint8_t *table, size_t table_length,
                    uint32_t position,
                    uint64_t *count, size_t count_length,
                    double *share, size_t share_length,
+                   uint32_t *answer, size_t answer_length);
+
+/* The label of a variable, any number: which part of `site` or of `factory` is its text. The first record for the variable in
+ * `site` counts, else the first in `factory`. Changes no buffer but `answer`.
+ *   site:    RELAY_SITE_LABEL, the offset of the text's first byte in `site`, RELAY_TEXT_SIZE
+ *   factory: RELAY_FACTORY_LABEL, the offset of the text's first byte in `factory`, RELAY_TEXT_SIZE
+ *   none:    RELAY_NO_LABEL, 0, 0 (neither list names the variable; or a list, whichever, has a length that is no multiple
+ *            of RELAY_LABEL_SIZE, or more than RELAY_MOST_LABELS records)
+ */
+size_t relay_label(const uint8_t *site, size_t site_length,
+                   const uint8_t *factory, size_t factory_length,
+                   uint32_t variable,
                    uint32_t *answer, size_t answer_length);
 
 /* Swap a level and the one below it. A made swap changes `table` and `order`; any other answer leaves both
