@@ -1,11 +1,12 @@
--- The listing of a store as a list of bytes: a line for the order, a line for each record, a line for the roots.
+-- The listing of a store as a list of bytes: a line for the order, a line for each record and one for its label, a line for the roots.
 -- docs/RULES.md, 7.2.
 use Prim.Native.Nat.{ℕ}
-use mathlib.Core.Bool.{cond}
-use mathlib.Core.List.{List, _++_}
+use mathlib.Core.Bool.{cond, _||_}
+use mathlib.Core.List.{List, [], _++_}
+use lib.Dec.{eqb}
 use lib.ListN.{length, getD}
 use Rattle.diagrams.specs.Layout.{records, rootCount, variableAt, lowAt, highAt, rootAt, isFree}
-use Rattle.texts.specs.Text.{bytes, decimal, numbered, inTurn}
+use Rattle.texts.specs.Text.{bytes, decimal, numbered, beforeZero, inTurn}
 
 -- ---- the order: each variable after a space, from the top level down
 
@@ -29,8 +30,21 @@ contentText t i = cond (isFree t i) (bytes " free") (fieldsText (variableAt t i)
 unfoldable pub recordLine : List ℕ → ℕ → List ℕ
 recordLine t i = decimal i ++ contentText t i ++ bytes "\n"
 
-abbrev pub recordLines : List ℕ → List ℕ
-recordLines t = inTurn (recordLine t) (records t)
+-- ---- the label of a record: `label` gives the text of each variable's label, which is empty where the variable has none
+
+-- a line of the text's bytes before its first zero
+unfoldable pub labelLine : List ℕ → List ℕ
+labelLine text = beforeZero text ++ bytes "\n"
+
+-- no line after a free record, nor after one whose variable has no label
+unfoldable pub labelText : (ℕ → List ℕ) → List ℕ → ℕ → List ℕ
+labelText label t i = let text = label (variableAt t i) in cond (isFree t i || eqb (length text) 0) [] (labelLine text)
+
+unfoldable pub recordText : (ℕ → List ℕ) → List ℕ → ℕ → List ℕ
+recordText label t i = recordLine t i ++ labelText label t i
+
+abbrev pub recordsText : (ℕ → List ℕ) → List ℕ → List ℕ
+recordsText label t = inTurn (recordText label t) (records t)
 
 -- ---- the roots: each reference after a space; the word alone where there is none
 
@@ -43,5 +57,5 @@ referencesText r = inTurn (rootText r) (rootCount r)
 unfoldable pub rootsLine : List ℕ → List ℕ
 rootsLine r = bytes "roots" ++ referencesText r ++ bytes "\n"
 
-unfoldable pub listing : List ℕ → List ℕ → List ℕ → List ℕ
-listing t r o = orderLine o ++ recordLines t ++ rootsLine r
+unfoldable pub listing : (ℕ → List ℕ) → List ℕ → List ℕ → List ℕ → List ℕ
+listing label t r o = orderLine o ++ recordsText label t ++ rootsLine r

@@ -1,16 +1,19 @@
-// The listing of a store: its order, its records and its roots, put as text into a lent list of bytes. Each function puts its part at a
-// place of the list and hands back the place after it.
+// The listing of a store: its order, its records with the labels of their variables, and its roots, put as text into a lent list of bytes. Each
+// function puts its part at a place of the list and hands back the place after it.
 ghost use Prim.Native.Nat.{_<_};
 ghost use lib.ListN.{length};
 ghost use Rattle.diagrams.specs.Layout.{InTable, InRoots};
 ghost use Rattle.texts.specs.Put.{Put, Space};
-ghost use Rattle.listing.specs.Text.{variableText, variablesText, orderLine, fieldsText, contentText, recordLine, recordLines};
+ghost use Rattle.labels.specs.Label.{textOf};
+ghost use Rattle.listing.specs.Text.{variableText, variablesText, orderLine, fieldsText, contentText, recordLine};
+ghost use Rattle.listing.specs.Text.{labelLine, labelText, recordText, recordsText};
 ghost use Rattle.listing.specs.Text.{rootText, referencesText, rootsLine, listing};
 use diagrams::RecordNumber;
 use diagrams::Reference;
 use diagrams::Variable;
 use diagrams::wide;
 use texts::put;
+use texts::put_before_zero;
 use texts::put_decimal;
 use texts::put_numbered;
 
@@ -83,15 +86,70 @@ fn put_record(out: &mut [u8], at: usize, table: &[u8], i: RecordNumber) -> usize
     put(out, after_content, b"\n")
 }
 
-fn put_records(out: &mut [u8], at: usize, table: &[u8]) -> usize
-    requires { ⌜ Space (now out) at (recordLines (now table)) ⌝ }
-    ensures { λ r. ⌜ Put (now (out .entry)) at (recordLines (now (table .entry))) (now (out .exit)) r ⌝ }
+// ---- their labels, from the lists of the site and of the factory
+
+fn put_label_line(out: &mut [u8], at: usize, text: &[u8]) -> usize
+    requires { ⌜ Space (now out) at (labelLine (now text)) ⌝ }
+    ensures { λ r. ⌜ Put (now (out .entry)) at (labelLine (now (text .entry))) (now (out .exit)) r ⌝ }
+{
+    let after_text = put_before_zero(out, at, text);
+    put(out, after_text, b"\n")
+}
+
+// After a used record, the line of its variable's label, where it has one.
+fn put_label<'a>(
+    out: &mut [u8],
+    at: usize,
+    table: &[u8],
+    i: RecordNumber,
+    site: &'a [u8],
+    factory: &'a [u8],
+) -> usize
+    requires { ⌜ InTable (now table) (i .0) × Space (now out) at (labelText (textOf (now site) (now factory)) (now table) (i .0)) ⌝ }
+    ensures { λ r.
+        ⌜ Put (now (out .entry)) at (labelText (textOf (now (site .entry)) (now (factory .entry))) (now (table .entry)) (i .0)) (now (out .exit)) r ⌝ }
+{
+    if i.is_free(table) {
+        return at;
+    }
+    let text = labels::label(site, factory, i.variable(table));
+    if text.len() == 0 {
+        return at;
+    }
+    put_label_line(out, at, text)
+}
+
+fn put_labelled<'a>(
+    out: &mut [u8],
+    at: usize,
+    table: &[u8],
+    i: RecordNumber,
+    site: &'a [u8],
+    factory: &'a [u8],
+) -> usize
+    requires { ⌜ InTable (now table) (i .0) × Space (now out) at (recordText (textOf (now site) (now factory)) (now table) (i .0)) ⌝ }
+    ensures { λ r.
+        ⌜ Put (now (out .entry)) at (recordText (textOf (now (site .entry)) (now (factory .entry))) (now (table .entry)) (i .0)) (now (out .exit)) r ⌝ }
+{
+    let after_record = put_record(out, at, table, i);
+    put_label(out, after_record, table, i, site, factory)
+}
+
+fn put_records<'a>(
+    out: &mut [u8],
+    at: usize,
+    table: &[u8],
+    site: &'a [u8],
+    factory: &'a [u8],
+) -> usize
+    requires { ⌜ Space (now out) at (recordsText (textOf (now site) (now factory)) (now table)) ⌝ }
+    ensures { λ r. ⌜ Put (now (out .entry)) at (recordsText (textOf (now (site .entry)) (now (factory .entry))) (now (table .entry))) (now (out .exit)) r ⌝ }
 {
     let n = diagrams::count_records(table);
     let mut next = at;
     let mut i = 0;
     while i < n {
-        next = put_record(out, next, table, RecordNumber(i));
+        next = put_labelled(out, next, table, RecordNumber(i), site, factory);
         i += 1;
     }
     next
@@ -129,11 +187,21 @@ fn put_roots(out: &mut [u8], at: usize, roots: &[u8]) -> usize
     put(out, after_references, b"\n")
 }
 
-pub fn put_listing(out: &mut [u8], at: usize, table: &[u8], roots: &[u8], order: &[u8]) -> usize
-    requires { ⌜ Space (now out) at (listing (now table) (now roots) (now order)) ⌝ }
-    ensures { λ r. ⌜ Put (now (out .entry)) at (listing (now (table .entry)) (now (roots .entry)) (now (order .entry))) (now (out .exit)) r ⌝ }
+pub fn put_listing<'a>(
+    out: &mut [u8],
+    at: usize,
+    table: &[u8],
+    roots: &[u8],
+    order: &[u8],
+    site: &'a [u8],
+    factory: &'a [u8],
+) -> usize
+    requires { ⌜ Space (now out) at (listing (textOf (now site) (now factory)) (now table) (now roots) (now order)) ⌝ }
+    ensures { λ r.
+        ⌜ Put (now (out .entry)) at
+        (listing (textOf (now (site .entry)) (now (factory .entry))) (now (table .entry)) (now (roots .entry)) (now (order .entry))) (now (out .exit)) r ⌝ }
 {
     let after_order = put_order(out, at, order);
-    let after_records = put_records(out, after_order, table);
+    let after_records = put_records(out, after_order, table, site, factory);
     put_roots(out, after_records, roots)
 }

@@ -6,6 +6,7 @@ use mathlib.Core.Path.{_≡_, ap, _∙_}
 use borrow.Author.Needs.{needs}
 use lib.ListN.{getD}
 use Rattle.slices.specs.declared.RunAnswer.{RunAnswer}
+use Rattle.labels.specs.Label.{textOf}
 use Rattle.job.specs.Job.{JobOutcome}
 use Rattle.texts.specs.Put.{Put, Printed, put-nothing, space-as, put-as}
 use Rattle.listing.specs.Text.{listing}
@@ -31,12 +32,12 @@ module _ (a : RunAnswer) {b : Bool} (flag : b ≡ isRefused a) where
   unfolding planText
   plan-told plan h = rw (← flag, h)
 
-  module _ (t r o : List ℕ) where
-    pub store-none : {x : List ℕ} {at : ℕ} → b ≡ true → Put x at (storeText a t r o) x at
+  module _ (label : ℕ → List ℕ) (t r o : List ℕ) where
+    pub store-none : {x : List ℕ} {at : ℕ} → b ≡ true → Put x at (storeText a label t r o) x at
     unfolding storeText
     store-none h = rw (← flag, h) put-nothing
 
-    pub store-listed : b ≡ false → storeText a t r o ≡ listing t r o
+    pub store-listed : b ≡ false → storeText a label t r o ≡ listing label t r o
     unfolding storeText
     store-listed h = rw (← flag, h)
 
@@ -46,9 +47,9 @@ pub ruleset storing = (space-as, put-as, store-none, store-listed, needs)
 
 -- ---- the text of the program
 
-pub program-printed : (t r o g p : List ℕ) {a : RunAnswer} {t′ o′ x y : List ℕ} {n k : ℕ}
-    → JobOutcome t r o g p a t′ o′ → k ≡ getD p 0 0 → Printed (printed k a t′ r o′) x y n → Prints t r o g p x y n
+pub program-printed : (t r o g p s f : List ℕ) {a : RunAnswer} {t′ o′ x y : List ℕ} {n k : ℕ}
+    → JobOutcome t r o g p a t′ o′ → k ≡ getD p 0 0 → Printed (printed k a (textOf s f) t′ r o′) x y n → Prints t r o g p s f x y n
 unfolding programText
-program-printed t r o g p {x = x} {y = y} {n = n} e q h = rw (← e, ← q) h
+program-printed t r o g p s f {x = x} {y = y} {n = n} e q h = rw (← e, ← q) h
 
 pub ruleset printing = (text-space, program-printed, needs)

@@ -1,10 +1,10 @@
 -- A file over its limit is refusal 1, and so is an odd number of root bytes. So the program need not read a file further than one byte past its
--- limit.
+-- limit. A label list over its limit is no refusal, but labels nothing, read as far as that or whole.
 use Prim.Native.Nat.{ℕ, _+_, _*_, _%_, _≤_, _<_}
 use mathlib.Core.Bool.{Bool, true, false, cond}
 use mathlib.Core.List.{List, [], _∷_}
 use mathlib.Core.Logic.{⊎-elim}
-use mathlib.Core.Path.{_≡_, refl, ap, sym, _∙_}
+use mathlib.Core.Path.{_≡_, refl, ap, sym, _∙_, fun-ext}
 use native.Mathlib.Omega.{arith}
 use lib.Dec.{eqb}
 use lib.ListN.{length, getD, take}
@@ -18,6 +18,9 @@ use Rattle.orders.specs.Permutation.{ceiling}
 use Rattle.check_sizes.specs.Sizes.{Sizes}
 use Rattle.checks.specs.Stages.{refusal, stageAt, verdictOf, place-refuses, row-refuses}
 use Rattle.checks.specs.declared.Verdict.the-variants as verdict
+use Rattle.labels.specs.Label.{labelSize, mostLabels, textOf}
+use Rattle.labels.specs.Labelled.{RightLength, Unlabelled, site-wrong, factory-wrong}
+use Rattle.labels.specs.Texts.{text-empty-if}
 use Rattle.plans.specs.Numbered.{noPlan}
 use Rattle.slices.specs.OneSwap.{plainSwap}
 use Rattle.slices.specs.Run.{Ran, badRunSizes, storeStages, runStages, runOf}
@@ -62,9 +65,9 @@ module _ (t r o g : List ℕ) where
       either true = refl
       either false = refl
 
-  pub over-printed : (p : List ℕ) → OverLimit t r o g → programText t r o g p ≡ bytes "refused 1 place 0\n"
+  pub over-printed : (p s f : List ℕ) → OverLimit t r o g → programText t r o g p s f ≡ bytes "refused 1 place 0\n"
   unfolding first places decimal numbered answerText answerLine planText storeText printed programText
-  over-printed p h = ap (λ (ran : Ran). printed (getD p 0 0) (ran .answer) (ran .table) r (ran .order)) (over-refused p h)
+  over-printed p s f h = ap (λ (ran : Ran). printed (getD p 0 0) (ran .answer) (textOf s f) (ran .table) r (ran .order)) (over-refused p h)
 
 -- ---- a file read up to one byte past its limit
 
@@ -77,19 +80,34 @@ cut-long limit l h = omega (arith, length-take-le (limit + 1) l (omega arith))
 whole : (limit : ℕ) (l : List ℕ) → length l ≤ limit → cut limit l ≡ l
 whole limit l h = take-all (limit + 1) l (omega arith)
 
-same-text : {t r o g t′ r′ o′ g′ : List ℕ} (p p′ : List ℕ) → OverLimit t r o g → OverLimit t′ r′ o′ g′ → programText t r o g p ≡ programText t′ r′ o′ g′ p′
-same-text p p′ h k = over-printed _ _ _ _ p h ∙ sym (over-printed _ _ _ _ p′ k)
+same-text : {t r o g t′ r′ o′ g′ : List ℕ} (p p′ s f : List ℕ) → OverLimit t r o g → OverLimit t′ r′ o′ g′
+    → programText t r o g p s f ≡ programText t′ r′ o′ g′ p′ s f
+same-text p p′ s f h k = over-printed _ _ _ _ p s f h ∙ sym (over-printed _ _ _ _ p′ s f k)
 
 -- a plan file of two bytes or more tells no plan, as one cut after two
-plan-cut : (t r o g p : List ℕ) → programText t r o g (cut 1 p) ≡ programText t r o g p
+plan-cut : (t r o g p s f : List ℕ) → programText t r o g (cut 1 p) s f ≡ programText t r o g p s f
 unfolding programText jobOf
-plan-cut t r o g p = rw (getD-take 2 p 0 0 (omega arith), either-side 1 (length p) long (λ l. ap (λ x. eqb (length x) 1) (whole 1 p l)))
+plan-cut t r o g p s f = rw (getD-take 2 p 0 0 (omega arith), either-side 1 (length p) long (λ l. ap (λ x. eqb (length x) 1) (whole 1 p l)))
   where
     long : 1 < length p → eqb (length (cut 1 p)) 1 ≡ eqb (length p) 1
     long l = ne-eqb (length (cut 1 p)) 1 (λ e. omega (arith, cut-long 1 p l)) ∙ sym (ne-eqb (length p) 1 (λ e. omega arith))
 
+-- the longest list of labels
+abbrev L : ℕ
+L = labelSize * mostLabels
+
+-- a list of labels over its limit labels nothing, whole or cut
+labels-cut : (s f : List ℕ) → textOf (cut L s) (cut L f) ≡ textOf s f
+labels-cut s f =
+    either-side L (length s) (λ l. none (λ v. site-wrong (λ r. omega (arith, r .few, cut-long L s l))) (λ v. site-wrong (λ r. omega (arith, r .few))))
+    (λ a. either-side L (length f) (λ l. none (λ v. factory-wrong (λ r. omega (arith, r .few, cut-long L f l))) (λ v. factory-wrong (λ r. omega (arith, r .few))))
+    (λ b. rw (whole L s a, whole L f b)))
+  where
+    none : {s f s′ f′ : List ℕ} → ((v : ℕ) → Unlabelled s f v) → ((v : ℕ) → Unlabelled s′ f′ v) → textOf s f ≡ textOf s′ f′
+    none u w = fun-ext (λ v. text-empty-if _ _ v (u v) ∙ sym (text-empty-if _ _ v (w v)))
+
 -- the text is that of the whole files
-module _ (t r o g p : List ℕ) where
+module _ (t r o g p s f : List ℕ) where
   abbrev T : ℕ
   T = recordSize * mostRecords
 
@@ -99,10 +117,15 @@ module _ (t r o g p : List ℕ) where
   abbrev p′ : List ℕ
   p′ = cut 1 p
 
-  pub cut-tells : programText (cut T t) (cut R r) (cut ceiling o) (cut ceiling g) p′ ≡ programText t r o g p
-  cut-tells =
-      either-side T (length t) (λ l. same-text p′ p (table-long (cut-long T t l)) (table-long l))
-      (λ a. either-side R (length r) (λ l. same-text p′ p (roots-long (cut-long R r l)) (roots-long l))
-      (λ b. either-side ceiling (length o) (λ l. same-text p′ p (order-long (cut-long ceiling o l)) (order-long l))
-      (λ c. either-side ceiling (length g) (λ l. same-text p′ p (target-long (cut-long ceiling g l)) (target-long l))
-      (λ d. rw (whole T t a, whole R r b, whole ceiling o c, whole ceiling g d) (plan-cut t r o g p)))))
+  -- trip.lbs and trip.lbf whole
+  store-tells : programText (cut T t) (cut R r) (cut ceiling o) (cut ceiling g) p′ s f ≡ programText t r o g p s f
+  store-tells =
+      either-side T (length t) (λ l. same-text p′ p s f (table-long (cut-long T t l)) (table-long l))
+      (λ a. either-side R (length r) (λ l. same-text p′ p s f (roots-long (cut-long R r l)) (roots-long l))
+      (λ b. either-side ceiling (length o) (λ l. same-text p′ p s f (order-long (cut-long ceiling o l)) (order-long l))
+      (λ c. either-side ceiling (length g) (λ l. same-text p′ p s f (target-long (cut-long ceiling g l)) (target-long l))
+      (λ d. rw (whole T t a, whole R r b, whole ceiling o c, whole ceiling g d) (plan-cut t r o g p s f)))))
+
+  pub cut-tells : programText (cut T t) (cut R r) (cut ceiling o) (cut ceiling g) p′ (cut L s) (cut L f) ≡ programText t r o g p s f
+  unfolding programText
+  cut-tells = rw (labels-cut s f) store-tells

@@ -1,15 +1,18 @@
 -- The outputs that the bench sheet spells out, computed from the definitions.
-use Prim.Native.Nat.{ℕ}
-use mathlib.Core.List.{List, [], _∷_}
+use Prim.Native.Nat.{ℕ, _-_}
+use mathlib.Core.List.{List, [], _∷_, _++_}
 use mathlib.Core.Path.{_≡_, refl}
+use lib.ListN.{length, replicate}
 use Rattle.lists.specs.First.{first}
 use Rattle.checks.specs.Stages.{refusal}
+use Rattle.labels.specs.Label.{textSize, badLength, names, labelOf, textOf}
 use Rattle.swaps.specs.Outcome.{lack}
 use Rattle.slices.specs.declared.RunAnswer.the-variants.{Done, NoRoom, Refused}
 use Rattle.sheet.specs.Sheet.{outcome}
 use Rattle.job.specs.Job.{jobOf}
-use Rattle.texts.specs.Text.{bytes, places, decimal, numbered, inTurn}
-use Rattle.listing.specs.Text.{variableText, orderLine, fieldsText, contentText, recordLine, rootText, rootsLine, listing}
+use Rattle.texts.specs.Text.{bytes, places, decimal, numbered, beforeZero, inTurn}
+use Rattle.listing.specs.Text.{variableText, orderLine, fieldsText, contentText, recordLine, labelLine, labelText, recordText}
+use Rattle.listing.specs.Text.{rootText, rootsLine, listing}
 use Rattle.program.specs.Text.{swapsText, lackText, answerText, answerLine, planLine, planText, storeText, printed}
 use Rattle.program.specs.Program.{programText}
 
@@ -30,10 +33,28 @@ tgt = 1 ∷ 0 ∷ []
 pln : List ℕ
 pln = 0 ∷ []
 
-case-A : programText nod rts ord tgt pln ≡ bytes "plan 0\ndone swaps 1 left 0\norder 1 0\n0 free\n1 1 0 4\n2 0 0 1\nroots 3\n"
-unfolding nod rts ord tgt pln outcome first places decimal numbered inTurn variableText orderLine fieldsText contentText recordLine rootText rootsLine
-    listing swapsText answerText answerLine planLine planText storeText printed jobOf programText
+case-A : programText nod rts ord tgt pln [] [] ≡ bytes "plan 0\ndone swaps 1 left 0\norder 1 0\n0 free\n1 1 0 4\n2 0 0 1\nroots 3\n"
+unfolding nod rts ord tgt pln outcome first places decimal numbered beforeZero inTurn variableText orderLine fieldsText contentText recordLine labelLine
+    labelText recordText rootText rootsLine listing swapsText answerText answerLine planLine planText storeText printed badLength names labelOf textOf
+    jobOf programText
 case-A = refl
+
+-- case A with labels: the factory's for both inputs, and the site's own for input 1
+padded : List ℕ → List ℕ
+padded word = word ++ replicate (textSize - length word) 0
+
+lbs : List ℕ
+lbs = 1 ∷ padded (bytes "87G picked up")
+
+lbf : List ℕ
+lbf = (0 ∷ padded (bytes "52a closed")) ++ (1 ∷ padded (bytes "input 2"))
+
+labelled : programText nod rts ord tgt pln lbs lbf
+    ≡ bytes "plan 0\ndone swaps 1 left 0\norder 1 0\n0 free\n1 1 0 4\n87G picked up\n2 0 0 1\n52a closed\nroots 3\n"
+unfolding nod rts ord tgt pln lbs lbf padded outcome first places decimal numbered beforeZero inTurn variableText orderLine fieldsText contentText recordLine
+    labelLine labelText recordText rootText rootsLine listing swapsText answerText answerLine planLine planText storeText printed badLength names labelOf textOf
+    jobOf programText
+labelled = refl
 
 -- the line of another plan
 plan-2 : planText (Done 1 0) 2 ≡ bytes "plan 2\n"
@@ -41,11 +62,11 @@ unfolding first places decimal numbered planLine planText
 plan-2 = refl
 
 -- a number that no plan has, and a file that isn't one byte
-no-plan : programText nod rts ord tgt (200 ∷ []) ≡ bytes "refused 13 place 200\n"
+no-plan : programText nod rts ord tgt (200 ∷ []) [] [] ≡ bytes "refused 13 place 200\n"
 unfolding nod rts ord tgt outcome first places decimal numbered answerText answerLine planLine planText storeText printed jobOf programText
 no-plan = refl
 
-empty-plan : programText nod rts ord tgt [] ≡ bytes "refused 13 place 0\n"
+empty-plan : programText nod rts ord tgt [] [] [] ≡ bytes "refused 13 place 0\n"
 unfolding nod rts ord tgt outcome first places decimal numbered answerText answerLine planLine planText storeText printed jobOf programText
 empty-plan = refl
 
@@ -53,9 +74,9 @@ no-room : answerText (NoRoom 0 1 (lack 0 1 0)) ≡ bytes "no room swaps 0 left 1
 unfolding first places decimal numbered swapsText lackText answerText
 no-room = refl
 
-refused : (plan : ℕ) (t r o : List ℕ) → printed plan (Refused (refusal 4 2)) t r o ≡ bytes "refused 4 place 2\n"
+refused : (plan : ℕ) (label : ℕ → List ℕ) (t r o : List ℕ) → printed plan (Refused (refusal 4 2)) label t r o ≡ bytes "refused 4 place 2\n"
 unfolding first places decimal numbered answerText answerLine planLine planText storeText printed
-refused plan t r o = refl
+refused plan label t r o = refl
 
 no-roots : rootsLine [] ≡ bytes "roots\n"
 unfolding inTurn rootsLine

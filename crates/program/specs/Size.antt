@@ -5,6 +5,8 @@ use mathlib.Core.Path.{_≡_}
 use native.Mathlib.Omega.{arith}
 use lib.Dec.{lit≤}
 use lib.ListN.{length}
+use Rattle.labels.specs.Label.{textSize, textOf}
+use Rattle.labels.specs.Texts.{text-short}
 use Rattle.swaps.specs.declared.Lack.{Lack}
 use Rattle.slices.specs.declared.RunAnswer.{RunAnswer}
 use Rattle.slices.specs.declared.RunAnswer.the-variants.{Done, NoRoom, Paused, Refused}
@@ -42,15 +44,16 @@ answer-short (Refused w) = shorter 146 (both-short (numbered-any (bytes "refused
 
 -- ---- the whole text
 
-store-short : (a : RunAnswer) (t r o : List ℕ) (m : ℕ) → Short (listing t r o) m → Short (storeText a t r o) m
+store-short : (a : RunAnswer) (label : ℕ → List ℕ) (t r o : List ℕ) (m : ℕ) → Short (listing label t r o) m → Short (storeText a label t r o) m
 unfolding storeText
-store-short a t r o m h = either-short (isRefused a) (short zero-le) h
+store-short a label t r o m h = either-short (isRefused a) (short zero-le) h
 
 -- t and o are what a run left in the buffers, as long as they were before
-pub text-space : (plan : ℕ) (a : RunAnswer) (t r o : List ℕ) {t₀ o₀ out : List ℕ} → Held t₀ r o₀ → mostText ≤ length out
-    → length t ≡ length t₀ → length o ≡ length o₀ → Bytes t → Bytes r → Bytes o → Space out 0 (printed plan a t r o)
+pub text-space : (plan : ℕ) (a : RunAnswer) (s f t r o : List ℕ) {t₀ o₀ out : List ℕ} → Held t₀ r o₀ → mostText ≤ length out
+    → length t ≡ length t₀ → length o ≡ length o₀ → Bytes t → Bytes r → Bytes o → Space out 0 (printed plan a (textOf s f) t r o)
 unfolding printed answerLine
-text-space plan a t r o h m p q bt br bo =
-    let store = store-short a t r o _ (listing-short t r o bt br bo (omega (arith, h .table))) in
+text-space plan a s f t r o h m p q bt br bo =
+    let label = textOf s f in
+    let store = store-short a label t r o _ (listing-short label textSize t r o (text-short s f) bt br bo (omega (arith, h .table))) in
     let whole = both-short (both-short (plan-short a plan) (both-short (answer-short a) (word-short (bytes "\n")))) store in
     record { fits = omega (arith, whole .most, h .table, h .roots, h .order) }

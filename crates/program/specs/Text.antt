@@ -40,8 +40,9 @@ planLine plan = numbered (bytes "plan ") plan ++ bytes "\n"
 unfoldable pub planText : RunAnswer → ℕ → List ℕ
 planText a plan = cond (isRefused a) [] (planLine plan)
 
-unfoldable pub storeText : RunAnswer → List ℕ → List ℕ → List ℕ → List ℕ
-storeText a t r o = cond (isRefused a) [] (listing t r o)
+-- `label` gives the text of each variable's label
+unfoldable pub storeText : RunAnswer → (ℕ → List ℕ) → List ℕ → List ℕ → List ℕ → List ℕ
+storeText a label t r o = cond (isRefused a) [] (listing label t r o)
 
-unfoldable pub printed : ℕ → RunAnswer → List ℕ → List ℕ → List ℕ → List ℕ
-printed plan a t r o = planText a plan ++ answerLine a ++ storeText a t r o
+unfoldable pub printed : ℕ → RunAnswer → (ℕ → List ℕ) → List ℕ → List ℕ → List ℕ → List ℕ
+printed plan a label t r o = planText a plan ++ answerLine a ++ storeText a label t r o

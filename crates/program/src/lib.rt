@@ -1,8 +1,9 @@
-// What the program prints: from the bytes of its five files to the text, in one function. The other functions put their part of the text
+// What the program prints: from the bytes of its seven files to the text, in one function. The other functions put their part of the text
 // into a lent list of bytes and hand back the place after it.
 ghost use mathlib.Core.Path.{_≡_};
 ghost use Prim.Native.Nat.{_≤_};
 ghost use lib.ListN.{length};
+ghost use Rattle.labels.specs.Label.{textOf};
 ghost use Rattle.texts.specs.Put.{Put, Space, Printed};
 ghost use Rattle.program.specs.Text.{swapsText, lackText, answerText, answerLine, isRefused, planLine, planText, storeText, printed};
 ghost use Rattle.program.specs.Program.{Prints, mostText, Held};
@@ -10,15 +11,17 @@ ghost use Rattle.slices.specs.declared.RunAnswer.the-variants.{NoRoom, Refused}
 use checks::Refusal;
 use diagrams::MOST_RECORDS;
 use diagrams::MOST_ROOTS;
+use labels::TEXT_SIZE;
 use orders::Order;
 use slices::RunAnswer;
 use swaps::Lack;
 use texts::put;
 use texts::put_numbered;
 
-// The most bytes that are printed of a full store, with one variable more than an order may have: 21 a record, 6 a root, 4 a
-// variable, and 186 for the first two lines and the words.
-pub const MOST_TEXT: usize = 21 * MOST_RECORDS + 6 * MOST_ROOTS + 4 * (Order::CEILING + 1) + 186;
+// The most bytes that are printed of a full store, with one variable more than an order may have: 21 a record and a whole text with the end of its
+// line, 6 a root, 4 a variable, and 186 for the first two lines and the words.
+pub const MOST_TEXT: usize =
+    (21 + (TEXT_SIZE + 1)) * MOST_RECORDS + 6 * MOST_ROOTS + 4 * (Order::CEILING + 1) + 186;
 
 // ---- the line of the answer
 
@@ -109,54 +112,83 @@ fn put_plan(out: &mut [u8], answer: RunAnswer, plan: usize) -> usize
 }
 
 // The listing, unless the run was refused.
-fn put_store(
+fn put_store<'a>(
     out: &mut [u8],
     at: usize,
     answer: RunAnswer,
     table: &[u8],
     roots: &[u8],
     order: &[u8],
+    site: &'a [u8],
+    factory: &'a [u8],
 ) -> usize
-    requires { ⌜ Space (now out) at (storeText answer (now table) (now roots) (now order)) ⌝ }
-    ensures { λ r. ⌜ Put (now (out .entry)) at (storeText answer (now (table .entry)) (now (roots .entry)) (now (order .entry))) (now (out .exit)) r ⌝ }
+    requires { ⌜ Space (now out) at (storeText answer (textOf (now site) (now factory)) (now table) (now roots) (now order)) ⌝ }
+    ensures { λ r.
+        ⌜ Put (now (out .entry)) at
+        (storeText answer (textOf (now (site .entry)) (now (factory .entry))) (now (table .entry)) (now (roots .entry)) (now (order .entry))) (now (out .exit)) r ⌝ }
 {
     if is_refused(answer) {
         return at;
     }
-    listing::put_listing(out, at, table, roots, order)
+    listing::put_listing(out, at, table, roots, order, site, factory)
 }
 
-fn print(
+fn print<'a>(
     out: &mut [u8],
     plan: usize,
     answer: RunAnswer,
     table: &[u8],
     roots: &[u8],
     order: &[u8],
+    site: &'a [u8],
+    factory: &'a [u8],
 ) -> usize
-    requires { ⌜ Space (now out) 0 (printed plan answer (now table) (now roots) (now order)) ⌝ }
-    ensures { λ n. ⌜ Printed (printed plan answer (now (table .entry)) (now (roots .entry)) (now (order .entry))) (now (out .entry)) (now (out .exit)) n ⌝ }
+    requires { ⌜ Space (now out) 0 (printed plan answer (textOf (now site) (now factory)) (now table) (now roots) (now order)) ⌝ }
+    ensures { λ n.
+        ⌜ Printed
+        (printed plan answer (textOf (now (site .entry)) (now (factory .entry))) (now (table .entry)) (now (roots .entry)) (now (order .entry)))
+        (now (out .entry)) (now (out .exit)) n ⌝ }
 {
     let after_plan = put_plan(out, answer, plan);
     let after_answer = put_answer_line(out, after_plan, answer);
-    put_store(out, after_answer, answer, table, roots, order)
+    put_store(
+        out,
+        after_answer,
+        answer,
+        table,
+        roots,
+        order,
+        site,
+        factory,
+    )
 }
 
 // All that the program prints for the bytes of its files, from the first byte of `out` on; how many bytes that is. Brings the table and
 // the order as far towards the target as they go.
-pub fn text(
+pub fn text<'a>(
     table: &mut [u8],
     roots: &[u8],
     order: &mut [u8],
     target: &[u8],
     plan: &[u8],
+    site: &'a [u8],
+    factory: &'a [u8],
     out: &mut [u8],
 ) -> usize
     requires { ⌜ Held (now table) (now roots) (now order) × (mostText ≤ length (now out)) ⌝ }
     ensures { λ n.
         ⌜ Prints (now (table .entry)) (now (roots .entry)) (now (order .entry)) (now (target .entry)) (now (plan .entry))
-        (now (out .entry)) (now (out .exit)) n ⌝ }
+        (now (site .entry)) (now (factory .entry)) (now (out .entry)) (now (out .exit)) n ⌝ }
 {
     let answer = job::run(table, roots, order, target, plan);
-    print(out, job::number_in(plan), answer, table, roots, order)
+    print(
+        out,
+        job::number_in(plan),
+        answer,
+        table,
+        roots,
+        order,
+        site,
+        factory,
+    )
 }

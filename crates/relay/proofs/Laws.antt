@@ -1,5 +1,5 @@
 -- Laws of telling an answer, over plain variables.
-use Prim.Native.Nat.{ℕ, _-_, _≤_, _<_}
+use Prim.Native.Nat.{ℕ, _≤_, _<_}
 use mathlib.Core.Bool.{Bool, true, false, _||_}
 use mathlib.Core.List.{List, [], _∷_}
 use mathlib.Core.Path.{_≡_, ap, sym, _∙_}
@@ -10,6 +10,7 @@ use lib.Dec.{ltb}
 use lib.Ieee.{Float}
 use lib.ListN.{length, set}
 use Rattle.lists.specs.Truth.{or-neither}
+use Rattle.parts.specs.declared.Part.{Part}
 use Rattle.checks.specs.Check.{CheckOutcome}
 use Rattle.checks.specs.Theorems.{used-small, check-place-small}
 use Rattle.checks.specs.declared.Refusal.{Refusal}
@@ -17,9 +18,11 @@ use Rattle.checks.specs.declared.CheckAnswer.{CheckAnswer}
 use Rattle.checks.specs.declared.CheckAnswer.the-variants as check
 use Rattle.reading.specs.Read.{ReadOutcome}
 use Rattle.showing.specs.Show.{partOf}
-use Rattle.showing.specs.Parts.{part-small}
+use Rattle.showing.specs.Parts.{part-inside, part-small}
 use Rattle.reading.specs.Theorems.{read-place-small}
-use Rattle.showing.specs.declared.Part.{Part}
+use Rattle.labels.specs.Label.{labelOf, partAt}
+use Rattle.labels.specs.Labelled.{place-inside, place-small}
+use Rattle.labels.specs.declared.Place.{Place}
 use Rattle.reading.specs.declared.ReadAnswer.{ReadAnswer}
 use Rattle.reading.specs.declared.ReadAnswer.the-variants as reading
 use Rattle.counting.specs.Count.{CountOutcome}
@@ -34,6 +37,7 @@ use Rattle.slices.specs.Run as run
 use Rattle.slices.specs.Run.{RunOutcome}
 use Rattle.slices.specs.declared.RunAnswer.{RunAnswer}
 use Rattle.relay_numbers.specs.Written.{Written, wrote, written, told}
+use Rattle.relay_parts.specs.Small.{Small, small}
 use Rattle.relay.specs.Told.{toldCount, toldSwap, toldRun, CountTold, SwapTold, RunTold}
 use Rattle.relay_numbers.specs.Fits.{limit, Fits, swap-fits, run-fits}
 
@@ -61,15 +65,13 @@ module _ (t r o : List ℕ) where
         → f .place < limit
     read-place-fits inputs f p q l = read-place-small t r o position inputs limit (f .number) (f .place) (omega arith) l (sym p ∙ q)
 
-    module _ {p : Part} (is : p ≡ partOf t r o position) where
-      end-fits : p .1 < limit
-      end-fits = rw is (omega (arith, part-small t r o position))
+    pub part-fits : {p : Part} → p ≡ partOf t r o position → Small p
+    part-fits is = rw is (small (part-inside t r o position) (part-small t r o position) (omega arith))
 
-      pub from-fits : p .0 ≤ p .1 → p .0 < limit
-      from-fits l = omega (arith, end-fits)
+-- ---- a label
 
-      pub length-fits : p .1 - p .0 < limit
-      length-fits = omega (arith, end-fits)
+pub place-fits : (s f : List ℕ) (v : ℕ) {place : Place} → place ≡ labelOf s f v → Small (partAt place)
+place-fits s f v is = rw is (small (place-inside s f v) (place-small s f v) (omega arith))
 
 -- ---- a count
 

@@ -9,7 +9,9 @@ use lib.Ieee.{Float}
 use lib.ListN.{length, set}
 use Rattle.checks.specs.Check as check
 use Rattle.reading.specs.Read as read
+use Rattle.parts.specs.Part as part
 use Rattle.showing.specs.Show as show
+use Rattle.labels.specs.Label as label
 use Rattle.counting.specs.Count as count
 use Rattle.counting.specs.declared.CountAnswer.{CountAnswer}
 use Rattle.counting.specs.declared.CountAnswer.the-variants as counted
@@ -27,7 +29,10 @@ abbrev pub ReadTold : List ℕ → List ℕ → List ℕ → ℕ → List ℕ �
 ReadTold t r o position inputs list w = w ≡ written list (read.numbers (read.readOf t r o position inputs))
 
 abbrev pub ShowTold : List ℕ → List ℕ → List ℕ → ℕ → List ℕ → Written → Type 0
-ShowTold t r o position list w = w ≡ written list (show.numbers (show.partOf t r o position))
+ShowTold t r o position list w = w ≡ written list (part.numbers (show.partOf t r o position))
+
+abbrev pub LabelTold : List ℕ → List ℕ → ℕ → List ℕ → Written → Type 0
+LabelTold s f v list w = w ≡ written list (label.numbers (label.labelOf s f v))
 
 -- ---- a count has a place of its own, and so has its share: the list, the places for the count and those for the share, afterwards
 

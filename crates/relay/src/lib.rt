@@ -1,8 +1,9 @@
 // The static library for C and Rust: each entry, with its answer as a list of numbers. include/relay.h declares it.
 ghost use Rattle.relay_numbers.specs.Written.{wrote};
-ghost use Rattle.relay.specs.Told.{CheckTold, ReadTold, ShowTold, CountTold, SwapTold, RunTold};
+ghost use Rattle.relay.specs.Told.{CheckTold, ReadTold, ShowTold, CountTold, LabelTold, SwapTold, RunTold};
 use checks::CheckAnswer;
 use counting::CountAnswer;
+use diagrams::Variable;
 use reading::ReadAnswer;
 
 #[no_mangle]
@@ -52,10 +53,21 @@ pub extern "C" fn relay_show(
         (now (answer .entry)) (wrote n (now (answer .exit))) ⌝ }
 {
     let part = showing::shown_part(table, roots, order, position as usize);
-    let from = part.0 as u32;
-    let length = (part.1 - part.0) as u32;
-    let numbers = [from, length];
-    relay_numbers::write(answer, &numbers)
+    relay_parts::tell_part(answer, part)
+}
+
+// Which list `labels::label` hands back a part of, where that part begins, and its length.
+#[no_mangle]
+pub extern "C" fn relay_label(
+    site: &[u8],
+    factory: &[u8],
+    variable: u32,
+    answer: &mut [u32],
+) -> usize
+    ensures { λ n. ⌜ LabelTold (now (site .entry)) (now (factory .entry)) variable (now (answer .entry)) (wrote n (now (answer .exit))) ⌝ }
+{
+    let place = labels::label_place(site, factory, Variable(variable as usize));
+    relay_parts::tell_place(answer, place)
 }
 
 // The count and its share each in a place of its own.

@@ -9,7 +9,7 @@ use lib.Seq.{take-length}
 use Rattle.lists.specs.Below.{below-at}
 use Rattle.lists.specs.Copy.{copied, copied-first}
 use Rattle.lists.specs.Fold.{fold, Steps, steps-end}
-use Rattle.relay_numbers.specs.Written.{Written, wrote, written}
+use Rattle.relay_numbers.specs.Written.{wrote, written}
 use Rattle.relay_numbers.specs.Fits.{limit, Fits}
 
 pub too-short : (numbers list : List ℕ) → length list < length numbers → wrote 0 list ≡ written list numbers
@@ -27,11 +27,8 @@ written-all numbers list {m} {i} {l} s e p h =
     ∙ rw (take-length numbers) in
     rw (le-ltb (length list) (length numbers) (omega arith), p, q)
 
--- ---- an answer that was taken apart: its numbers are written, and each fits
+-- ---- an answer that was taken apart: each of its numbers fits
 
 module _ {A : Type 0} (numbers : A → List ℕ) where
-  pub tells-apart : (list : List ℕ) {w : Written} {a b : A} → a ≡ b → w ≡ written list (numbers b) → w ≡ written list (numbers a)
-  tells-apart list p e = rw p e
-
   pub fits-at : (i : ℕ) {a b : A} {x : ℕ} → a ≡ b → Fits (numbers a) → x ≡ getD (numbers b) i 0 → x < limit
   fits-at i {a} p f e = rw (e, ← p) (below-at limit (numbers a) i (omega arith) f)

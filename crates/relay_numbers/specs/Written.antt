@@ -2,6 +2,7 @@
 use Prim.Native.Nat.{ℕ}
 use mathlib.Core.Bool.{cond}
 use mathlib.Core.List.{List, _++_}
+use mathlib.Core.Path.{_≡_}
 use lib.Dec.{ltb}
 use lib.ListN.{length, drop}
 
@@ -17,6 +18,11 @@ written list numbers =
     cond (ltb (length list) (length numbers))
     (wrote 0 list)
     (wrote (length numbers) (numbers ++ drop (length numbers) list))
+
+-- an answer that was taken apart is told by its numbers
+pub tells-apart : {A : Type 0} (numbers : A → List ℕ) (list : List ℕ) {w : Written} {a b : A} → a ≡ b → w ≡ written list (numbers b)
+    → w ≡ written list (numbers a)
+tells-apart numbers list p e = rw p e
 
 -- ---- a call that may change a table and an order: only where its whole answer fits the lent list
 

@@ -8,12 +8,14 @@ use native.Mathlib.Nat.{lt-of-not-le}
 use native.Mathlib.Omega.{arith}
 use borrow.Author.Tests.{lt-ltb, le-ltb, le-leb, lt-leb, ltb-true, ltb-false}
 use lib.Dec.{ltb}
-use lib.ListN.{length, take, drop, length-drop}
-use lib.Seq.{length-take-le}
+use lib.ListN.{length}
 use Rattle.lists.specs.Apart.{apart}
 use Rattle.lists.specs.Says.{nowhere, either-side}
 use Rattle.diagrams.specs.Layout.{recordSize, mostRecords, records, rootCount, rootAt, InTable}
 use Rattle.diagrams.specs.Node.{Constant, ref}
+use Rattle.parts.specs.Part.{noPart, Inside, bytesIn}
+use Rattle.parts.specs.Lent.{nothing-inside, Lent, handed-long, handed-lent, handed-one}
+use Rattle.parts.specs.declared.Part.{Part}
 use Rattle.check_roots.specs.Roots.{root-says}
 use Rattle.checks.specs.Stages.{verdictOf, clear-only, row-refuses, row-passes, place-refuses, place-passes}
 use Rattle.checks.specs.Check.{checkStages, used, answered, checkOf}
@@ -24,8 +26,7 @@ use Rattle.checks.specs.declared.Verdict.{Verdict}
 use Rattle.checks.specs.declared.Verdict.the-variants as verdict
 use Rattle.checks.specs.declared.CheckAnswer.the-variants as answer
 use Rattle.reading.specs.Read.{noRoot}
-use Rattle.showing.specs.declared.Part.{Part}
-use Rattle.showing.specs.Show.{showStages, shows, noPart, partAt, partOf, ShowOutcome}
+use Rattle.showing.specs.Show.{showStages, shows, partAt, partOf, ShowOutcome}
 
 -- ---- the ways to the part: a law for each, whose premises are what code knows there
 
@@ -87,14 +88,6 @@ pub record Something (t r o : List ℕ) (position : ℕ) : Type 0 where
   pub i : ℕ
   pub names : ref i ≡ rootAt r position
   pub inside : InTable t i
-
--- bytes of a table that lies in the caller's memory, handed back where they stand: a pointer into the table's block, moved by an offset;
--- none of them or eight, and all inside the table
-pub record Lent (t : List ℕ) (table pointer : ℕ × ℕ) (offset : ℕ) (bytes : List ℕ) : Type 0 where
-  pub block : pointer .0 ≡ table .0
-  pub moved : pointer .1 ≡ offset + table .1
-  pub long : (length bytes ≡ 0) ⊎ (length bytes ≡ recordSize)
-  pub within : offset + length bytes ≤ length t
 
 data Shown (t r o : List ℕ) (position : ℕ) : Type 0 where
   nothing : Nothing t r o position → partOf t r o position ≡ noPart → Shown t r o position
@@ -160,13 +153,13 @@ module _ (t r o : List ℕ) (position : ℕ) where
       go (nothing m e) = absurd (f m)
       go (something s e) = s
 
-  -- the part ends inside the table, and inside the largest one
-  pub part-inside : partOf t r o position .1 ≤ length t
+  -- the part lies in the table, and in the largest one
+  pub part-inside : Inside (partOf t r o position) t
   part-inside = go shown
     where
-      go : Shown t r o position → partOf t r o position .1 ≤ length t
-      go (nothing m e) = rw e (omega arith)
-      go (something s e) = rw e (s .inside)
+      go : Shown t r o position → Inside (partOf t r o position) t
+      go (nothing m e) = rw e nothing-inside
+      go (something s e) = rw e (record { begins = omega arith; ends = s .inside })
 
   pub part-small : partOf t r o position .1 ≤ recordSize * mostRecords
   part-small = go shown
@@ -178,18 +171,17 @@ module _ (t r o : List ℕ) (position : ℕ) where
   -- ---- what is handed back
 
   module _ {table pointer : ℕ × ℕ} {bytes : List ℕ} (s : ShowOutcome t r o position table pointer bytes) where
-    handed : (p : Part) → partOf t r o position ≡ p → bytes ≡ take (p .1 - p .0) (drop (p .0) t)
+    handed : (p : Part) → partOf t r o position ≡ p → bytes ≡ bytesIn p t
     handed p e = rw e at (s .the-bytes)
 
     pub show-empty-if : Nothing t r o position → bytes ≡ []
     show-empty-if n = handed noPart (no-part-if n)
 
     -- the eight bytes of the record
-    pub show-record : (w : Something t r o position) → (bytes ≡ take recordSize (drop (recordSize * w .i) t)) × (length bytes ≡ recordSize)
+    pub show-record : (w : Something t r o position) → (bytes ≡ bytesIn (partAt (w .i)) t) × (length bytes ≡ recordSize)
     show-record w =
-        let z : recordSize * w .i + recordSize - recordSize * w .i ≡ recordSize = omega arith in
-        let e : bytes ≡ take recordSize (drop (recordSize * w .i) t) = rw z at (handed (partAt (w .i)) (some-part-if w)) in
-        (e, ap length e ∙ length-take-le recordSize (drop (recordSize * w .i) t) (simp length-drop (omega (arith, w .inside))))
+        let e = some-part-if w in
+        (handed (partAt (w .i)) e, handed-long part-inside s ∙ rw e (omega arith))
 
     pub show-empty-only : bytes ≡ [] → Nothing t r o position
     show-empty-only e = go shown
@@ -199,23 +191,14 @@ module _ (t r o : List ℕ) (position : ℕ) where
         go (something w p) = absurd (omega (arith, show-record w .1, ap length e))
 
     -- in every case a part of the caller's own table, from the part's offset on
-    pub show-lent : Lent t table pointer (partOf t r o position .0) bytes
-    show-lent = record {
-      block = ap (λ (p : ℕ × ℕ). p .0) (s .the-pointer);
-      moved = ap (λ (p : ℕ × ℕ). p .1) (s .the-pointer);
-      long = long shown;
-      within = within shown;
-    }
+    pub show-lent : Lent t table pointer (partOf t r o position .0) recordSize bytes
+    show-lent = handed-lent part-inside s (go shown)
       where
-        long : Shown t r o position → (length bytes ≡ 0) ⊎ (length bytes ≡ recordSize)
-        long (nothing m e) = inl (ap length (show-empty-if m))
-        long (something w e) = inr (show-record w .1)
-
-        within : Shown t r o position → partOf t r o position .0 + length bytes ≤ length t
-        within (nothing m e) = rw (e, show-empty-if m) (omega arith)
-        within (something w e) = rw (e, show-record w .1) (w .inside)
+        go : Shown t r o position → (length bytes ≡ 0) ⊎ (length bytes ≡ recordSize)
+        go (nothing m e) = inl (ap length (show-empty-if m))
+        go (something w e) = inr (show-record w .1)
 
   -- one outcome for each input: the same bytes at the same place
   pub show-one : (table : ℕ × ℕ) {p q : ℕ × ℕ} {a b : List ℕ} → ShowOutcome t r o position table p a → ShowOutcome t r o position table q b
       → (p ≡ q) × (a ≡ b)
-  show-one table x y = (x .the-pointer ∙ sym (y .the-pointer), x .the-bytes ∙ sym (y .the-bytes))
+  show-one table x y = handed-one x y

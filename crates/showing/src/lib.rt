@@ -1,14 +1,13 @@
 // Show: a root's record, as a part of the caller's table.
-ghost use Rattle.showing.specs.Show.{PartOutcome, ShowOutcome};
+ghost use mathlib.Core.Path.{_≡_};
+ghost use Rattle.showing.specs.Show.{partOf, ShowOutcome};
 use checks::Verdict;
 use diagrams::RECORD_SIZE;
-
-// Where a part of the table begins and ends.
-pub struct Part(pub usize, pub usize);
+use parts::Part;
 
 // Where the record of a root lies in the table; 0 to 0 where there is nothing to show.
 pub fn shown_part(table: &[u8], roots: &[u8], order: &[u8], position: usize) -> Part
-    ensures { λ p. ⌜ PartOutcome (now (table .entry)) (now (roots .entry)) (now (order .entry)) position p ⌝ }
+    ensures { λ p. ⌜ p ≡ partOf (now (table .entry)) (now (roots .entry)) (now (order .entry)) position ⌝ }
 {
     let verdict = checks::verdict_of_all(table, roots, order);
     if let Verdict::Refused(_) = verdict {
@@ -28,8 +27,5 @@ pub fn shown_part(table: &[u8], roots: &[u8], order: &[u8], position: usize) -> 
 pub fn show<'a>(table: &'a [u8], roots: &[u8], order: &[u8], position: usize) -> &'a [u8]
     ensures { λ s. ⌜ ShowOutcome (now (table .entry)) (now (roots .entry)) (now (order .entry)) position (table .entry .ptr) (s .ptr) (now s) ⌝ }
 {
-    let p = shown_part(table, roots, order, position);
-    let from = p.0;
-    let to = p.1;
-    &table[from..to]
+    parts::part_of(table, shown_part(table, roots, order, position))
 }

@@ -1,4 +1,4 @@
--- A word copied to its place, and a number's digits, over plain variables.
+-- A word copied to its place, a number's digits, and a text up to its first zero, over plain variables.
 use Prim.Native.Nat.{ℕ, _+_, _≤_}
 use mathlib.Core.List.{List, _++_}
 use mathlib.Core.Path.{_≡_, ap, sym, _∙_}
@@ -7,11 +7,12 @@ use mir.Syntax.{w64}
 use mir.Val.{Fits}
 use borrow.Author.Needs.{needs}
 use lib.ListN.{length, take, drop}
-use lib.Seq.{paste, length-paste, take-paste, drop-paste, take-length}
+use lib.Seq.{paste, length-paste, take-paste, drop-paste, take-length, length-take-le}
 use Rattle.io.specs.Digits.{digits, Fewest}
 use Rattle.lists.specs.Copy.{copiedTo, copied-paste}
+use Rattle.lists.specs.First.{first-within}
 use Rattle.lists.specs.Fold.{Steps, steps-end}
-use Rattle.texts.specs.Text.{decimal}
+use Rattle.texts.specs.Text.{decimal, isZero, firstZero, beforeZero}
 use Rattle.texts.specs.Short.{decimal-is}
 use Rattle.texts.specs.Put.{Put, space-as, put-as}
 
@@ -32,3 +33,14 @@ pub spelt : (d : List ℕ) (k n : ℕ) → Fits w64 n → Fewest 10 1 n k → ta
 spelt d k n fits fewest e = sym (e ∙ decimal-is n k (fits .fits) fewest)
 
 pub ruleset spelling = (space-as, put-as, spelt, needs)
+
+-- ---- the bytes before the first zero
+
+pub cut-long : (text : List ℕ) {n : ℕ} → n ≡ firstZero text → n ≡ length (take n text)
+cut-long text {n} e = sym (length-take-le n text (rw e (first-within (isZero text) (length text))))
+
+pub cut-at-zero : (text : List ℕ) {n : ℕ} → n ≡ firstZero text → beforeZero text ≡ take n text
+unfolding beforeZero
+cut-at-zero text e = rw e
+
+pub ruleset cutting = (space-as, put-as, cut-long, cut-at-zero, needs)

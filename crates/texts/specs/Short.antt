@@ -8,10 +8,11 @@ use native.Mathlib.Omega.{arith}
 use borrow.Author.Tests.{lt-ltb, le-ltb}
 use lib.Dec.{T, ltb, leb, leb→le, lit<, lit≤}
 use lib.ListN.{length, length-append}
+use lib.Seq.{length-take-le}
 use Rattle.io.specs.Digits.{digits, Fewest, glyph}
 use Rattle.lists.specs.First.{first, Passed, first-at, first-passed, first-within}
 use Rattle.lists.specs.Says.{either-side, true-false}
-use Rattle.texts.specs.Text.{places, decimal, numbered, inTurn}
+use Rattle.texts.specs.Text.{places, decimal, numbered, isZero, firstZero, beforeZero, inTurn}
 
 -- ---- a number's digits
 
@@ -78,6 +79,10 @@ turns-short f (suc n) m h =
 
 pub word-short : (word : List ℕ) → Short word (length word)
 word-short word = short (le-refl (length word))
+
+pub before-zero-short : (text : List ℕ) (m : ℕ) → length text ≤ m → Short (beforeZero text) m
+unfolding beforeZero
+before-zero-short text m h = short (omega (arith, length-take-le (firstZero text) text (first-within (isZero text) (length text)), first-within (isZero text) (length text)))
 
 -- a number n below m, which k + 1 digits hold
 pub decimal-short : (n k m : ℕ) → n < m → T (leb m (10 ^ suc k)) → Short (decimal n) (suc k)

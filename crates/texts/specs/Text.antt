@@ -3,9 +3,11 @@ use Prim.Native.Nat.{ℕ, zero, suc, _^_}
 use Prim.Native.Char.{code}
 use Prim.Native.String.{String}
 use Prim.Native.String as string
+use mathlib.Core.Bool.{Bool}
 use mathlib.Core.List.{List, [], _∷_, _++_}
 use mathlib.Core.Path.{_≡_, refl}
-use lib.Dec.{ltb}
+use lib.Dec.{eqb, ltb}
+use lib.ListN.{length, getD, take}
 use Rattle.io.specs.Digits.{digits}
 use Rattle.lists.specs.First.{first}
 
@@ -25,6 +27,16 @@ decimal n = digits 10 (places n) n
 unfoldable pub numbered : List ℕ → ℕ → List ℕ
 numbered word n = word ++ decimal n
 
+-- the bytes of a text before its first zero; all of them where it has none
+abbrev pub isZero : List ℕ → ℕ → Bool
+isZero text i = eqb (getD text i 0) 0
+
+abbrev pub firstZero : List ℕ → ℕ
+firstZero text = first (isZero text) (length text)
+
+unfoldable pub beforeZero : List ℕ → List ℕ
+beforeZero text = take (firstZero text) text
+
 -- the texts f 0 to f (n - 1), one after the other
 unfoldable pub inTurn : (ℕ → List ℕ) → ℕ → List ℕ
 inTurn f zero = []
@@ -34,3 +46,16 @@ inTurn f (suc n) = inTurn f n ++ f n
 largest : decimal 18446744073709551615 ≡ bytes "18446744073709551615"
 unfolding first places decimal
 largest = refl
+
+-- a text that ends at its first zero, one that fills its place, and one that begins with a zero
+zeros : beforeZero (53 ∷ 50 ∷ 0 ∷ 97 ∷ 0 ∷ []) ≡ bytes "52"
+unfolding first beforeZero
+zeros = refl
+
+full : beforeZero (53 ∷ 50 ∷ 97 ∷ []) ≡ bytes "52a"
+unfolding first beforeZero
+full = refl
+
+empty : beforeZero (0 ∷ 53 ∷ 50 ∷ []) ≡ []
+unfolding first beforeZero
+empty = refl

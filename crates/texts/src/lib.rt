@@ -1,5 +1,8 @@
 // Words and numbers put into a lent list of bytes. Each function puts its text at a place of the list and hands back the place after it.
-ghost use Rattle.texts.specs.Text.{decimal, numbered};
+ghost use mathlib.Core.Path.{_≡_};
+ghost use Prim.Native.Nat.{_<_};
+ghost use lib.ListN.{length};
+ghost use Rattle.texts.specs.Text.{decimal, numbered, isZero, firstZero, beforeZero};
 ghost use Rattle.texts.specs.Put.{Put, Space};
 
 pub fn put(out: &mut [u8], at: usize, word: &[u8]) -> usize
@@ -31,4 +34,36 @@ pub fn put_numbered(out: &mut [u8], at: usize, word: &[u8], number: usize) -> us
 {
     let next = put(out, at, word);
     put_decimal(out, next, number)
+}
+
+// ---- a text that ends at its first zero
+
+fn is_zero(text: &[u8], i: usize) -> bool
+    requires { ⌜ i < length (now text) ⌝ }
+    ensures { λ b. ⌜ b ≡ isZero (now (text .entry)) i ⌝ }
+{
+    text[i] == 0
+}
+
+// Where the first zero stands; how long the text is where it has none.
+fn first_zero(text: &[u8]) -> usize
+    ensures { λ x. ⌜ x ≡ firstZero (now (text .entry)) ⌝ }
+{
+    let n = text.len();
+    let mut i = 0;
+    while i < n {
+        if is_zero(text, i) {
+            return i;
+        }
+        i += 1;
+    }
+    n
+}
+
+pub fn put_before_zero(out: &mut [u8], at: usize, text: &[u8]) -> usize
+    requires { ⌜ Space (now out) at (beforeZero (now text)) ⌝ }
+    ensures { λ r. ⌜ Put (now (out .entry)) at (beforeZero (now (text .entry))) (now (out .exit)) r ⌝ }
+{
+    let n = first_zero(text);
+    put(out, at, &text[..n])
 }

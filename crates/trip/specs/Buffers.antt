@@ -5,6 +5,7 @@ use mathlib.Core.Path.{_≡_}
 use lib.ListN.{length}
 use Rattle.diagrams.specs.Layout.{recordSize, rootSize, mostRecords, mostRoots}
 use Rattle.orders.specs.Permutation.{ceiling}
+use Rattle.labels.specs.Label.{labelSize, mostLabels}
 use Rattle.trip.specs.declared.Files.{Files}
 use Rattle.trip.specs.declared.Files.the-variants.{Read}
 
@@ -18,6 +19,10 @@ pub record Buffers (t r o g : List ℕ) : Type 0 where
 -- the buffer of trip.pln, before it is read: one byte more than the file may have, and the number of the plan where there is no file
 abbrev pub planBuffer : List ℕ
 planBuffer = 0 ∷ 0 ∷ []
+
+-- that of trip.lbs or trip.lbf: one byte more than the file may have; a file over its limit fills it, and has no right length
+pub record LabelBuffer (l : List ℕ) : Type 0 where
+  pub long : length l ≡ labelSize * mostLabels + 1
 
 -- so many bytes stand in each of the four
 pub record Filled (table roots order target : ℕ) (t r o g : List ℕ) : Type 0 where

@@ -2,12 +2,14 @@
 ghost use mathlib.Core.Path.{_≡_};
 ghost use Rattle.program.specs.Program.{Held};
 ghost use Rattle.files.specs.File.{Within};
-ghost use Rattle.trip.specs.Buffers.{Buffers, planBuffer, AllWithin};
+ghost use Rattle.trip.specs.Buffers.{Buffers, planBuffer, LabelBuffer, AllWithin};
 use diagrams::MOST_RECORDS;
 use diagrams::MOST_ROOTS;
 use diagrams::RECORD_SIZE;
 use diagrams::ROOT_SIZE;
 use files::File;
+use labels::LABEL_SIZE;
+use labels::MOST_LABELS;
 use libc::STDOUT_FILENO;
 use orders::Order;
 
@@ -55,18 +57,66 @@ fn load_plan(plan: &mut [u8]) -> File
     files::load(b"trip.pln", plan, 1)
 }
 
+// A missing file of labels counts as an empty list.
+fn load_labels(path: &[u8], list: &mut [u8]) -> File
+    requires { ⌜ LabelBuffer (now list) ⌝ }
+    ensures { λ f. ⌜ Within f (now (list .exit)) ⌝ }
+{
+    files::load(path, list, 0)
+}
+
 // Writes the text of the program at once.
-fn print(table: &mut [u8], roots: &[u8], order: &mut [u8], target: &[u8], plan: &[u8])
+fn print<'a>(
+    table: &mut [u8],
+    roots: &[u8],
+    order: &mut [u8],
+    target: &[u8],
+    plan: &[u8],
+    site: &'a [u8],
+    factory: &'a [u8],
+)
     requires { ⌜ Held (now table) (now roots) (now order) ⌝ }
 {
     let mut text = [0u8; program::MOST_TEXT];
-    let n = program::text(table, roots, order, target, plan, &mut text);
+    let n = program::text(
+        table,
+        roots,
+        order,
+        target,
+        plan,
+        site,
+        factory,
+        &mut text,
+    );
     if !io::write_all(STDOUT_FILENO, &text[..n]) {
         os::fail(b"standard output");
     }
 }
 
-// Each buffer has one byte more than its file may have, so that a file over its limit is refused by its length.
+// Prints with the labels of the site and of the factory.
+fn print_labelled(table: &mut [u8], roots: &[u8], order: &mut [u8], target: &[u8], plan: &[u8])
+    requires { ⌜ Held (now table) (now roots) (now order) ⌝ }
+{
+    let mut site = [0u8; LABEL_SIZE * MOST_LABELS + 1];
+    let File::Bytes(s) = load_labels(b"trip.lbs", &mut site) else {
+        return;
+    };
+    let mut factory = [0u8; LABEL_SIZE * MOST_LABELS + 1];
+    let File::Bytes(f) = load_labels(b"trip.lbf", &mut factory) else {
+        return;
+    };
+    print(
+        table,
+        roots,
+        order,
+        target,
+        plan,
+        &site[..s],
+        &factory[..f],
+    );
+}
+
+// Each buffer has one byte more than its file may have, so that a file over its limit is known by its length.
 fn main() {
     let mut table = [0u8; RECORD_SIZE * MOST_RECORDS + 1];
     let mut roots = [0u8; ROOT_SIZE * MOST_ROOTS + 1];
@@ -85,7 +135,7 @@ fn main() {
     let File::Bytes(p) = load_plan(&mut plan) else {
         return;
     };
-    print(
+    print_labelled(
         &mut table[..t],
         &roots[..r],
         &mut order[..n],

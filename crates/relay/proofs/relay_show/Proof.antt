@@ -1,18 +1,8 @@
 use borrow.Author.Needs.{needs}
-use Rattle.showing.specs.Show.{numbers}
-use Rattle.relay.proofs.Laws.{tells-it, from-fits, length-fits}
+use Rattle.parts.specs.Part.{numbers}
+use Rattle.relay.proofs.Laws.{tells-it, part-fits}
 use Rattle.relay.proofs.relay_show.Statement.{statement}
 use Rattle.relay.proofs.relay_show.Tie as tie
 
 pub relay-show-spec : {M : Type 1} → statement M
-relay-show-spec =
-    tie.close
-    (tie.spec
-    (λ c κs. search needs)
-    (λ c. search from-fits)
-    (λ c. search needs)
-    (λ c. search length-fits)
-    (λ c. search needs)
-    (λ c κs. search needs)
-    (λ c. search needs)
-    (λ c. search (tells-it numbers)))
+relay-show-spec = tie.close (tie.spec (λ c κs. search needs) (λ c κs. search part-fits) (λ c. search needs) (λ c. search (tells-it numbers)))

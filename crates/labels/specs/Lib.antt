@@ -1,0 +1,3 @@
+pub mod Label
+pub mod Labelled
+pub mod Texts
