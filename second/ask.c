@@ -2,8 +2,9 @@
  * every buffer. So the second program, which puts the questions, runs on any machine, and the library in a process of its own.
  *
  * A question: ten 32-bit numbers (which entry; the lengths of table, roots, order and of one buffer more, the inputs or the target; the number
- * asked for: position, level or plan; the budget; how many entries are lent of the list, of the places for a count and of those for a share), the
- * list, both rows of places, and the four buffers.
+ * asked for: position, level, plan or variable; the budget; how many entries are lent of the list, of the places for a count and of those for a
+ * share), the list, both rows of places, and the four buffers. Where a label is asked for, the first two of these are the site's list and the
+ * factory's, and the others are empty.
  * The answer: the number of numbers written, the list, the places and the four buffers, each whole.
  */
 #include <stdio.h>
@@ -18,7 +19,7 @@
 #define GUARD 16
 #define GUARDED 0xA5
 
-enum { CHECK, READ, SHOW, SWAP, RUN, COUNT };
+enum { CHECK, READ, SHOW, SWAP, RUN, COUNT, LABEL };
 
 struct question {
     uint32_t entry, table, roots, order, more, number, budget, entries, counts, shares;
@@ -91,6 +92,8 @@ static size_t ask(const struct question *q, struct buffer t, struct buffer r, st
         return relay_run(t.bytes, t.length, r.bytes, r.length, o.bytes, o.length, m.bytes, m.length, q->number, q->budget, list, q->entries);
     case COUNT:
         return relay_count(t.bytes, t.length, r.bytes, r.length, o.bytes, o.length, q->number, counts, q->counts, shares, q->shares, list, q->entries);
+    case LABEL:
+        return relay_label(t.bytes, t.length, r.bytes, r.length, q->number, list, q->entries);
     default:
         fail("no such entry");
         return 0;

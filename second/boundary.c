@@ -1,6 +1,7 @@
 /* The library as C sees it: its header, its static archive, and the answers of
- * each call for cases of the bench sheet, whole and damaged, in 256 KiB of
- * stack. The answers and the buffers afterwards are written out by hand. */
+ * each call for cases of the bench sheet, whole and damaged, and for lists of
+ * labels, in 256 KiB of stack. The answers and the buffers afterwards are
+ * written out by hand. */
 
 #define _POSIX_C_SOURCE 200809L
 
@@ -17,6 +18,7 @@
 #define LIST 8
 #define LEVELS RELAY_MOST_VARIABLES
 #define PLACES 2
+#define MANY_LABELS ((RELAY_MOST_LABELS + 1) * RELAY_LABEL_SIZE)
 #define UNTOUCHED UINT32_C(0xA5A55A5A)
 #define UNTOUCHED_PLACE UINT64_C(0xA5A55A5A5A5AA5A5)
 
@@ -554,12 +556,140 @@ static int counts(void)
                           UINT64_C(0x100000000), ONE);
 }
 
+/* Both lists of relay_label, not on the stack: record i is for variable i, and
+ * its text is one letter 15 times. */
+static uint8_t site[MANY_LABELS];
+static uint8_t factory[MANY_LABELS];
+
+static uint8_t label_byte(size_t position, uint8_t letter)
+{
+    return position % RELAY_LABEL_SIZE
+               ? letter
+               : (uint8_t)(position / RELAY_LABEL_SIZE);
+}
+
+static void lend_labels(void)
+{
+    size_t position;
+
+    for (position = 0; position < MANY_LABELS; position++) {
+        site[position] = label_byte(position, 's');
+        factory[position] = label_byte(position, 'f');
+    }
+}
+
+static int labels_changed(void)
+{
+    size_t position;
+    int changed = 0;
+
+    for (position = 0; position < MANY_LABELS; position++) {
+        changed = changed || site[position] != label_byte(position, 's') ||
+                  factory[position] != label_byte(position, 'f');
+    }
+    return changed;
+}
+
+/* What a call of relay_label is given. */
+struct asked {
+    size_t site_length, factory_length;
+    uint32_t variable;
+};
+
+/* Which part of which list a label is. */
+struct part {
+    uint32_t list, offset, length;
+};
+
+/* With fewer entries than the answer has, nothing is written. The lists stay
+ * as they are in any case. 0 where all is as expected. */
+static int label_with(size_t entries, const char *name, struct asked asked,
+                      struct part part)
+{
+    const uint32_t numbers[RELAY_LABEL_NUMBERS] = {part.list, part.offset,
+                                                   part.length};
+    size_t expected = entries < RELAY_LABEL_NUMBERS ? 0 : RELAY_LABEL_NUMBERS;
+    uint32_t list[LIST];
+    size_t written;
+    size_t entry;
+    int same;
+
+    lend_labels();
+    for (entry = 0; entry < LIST; entry++) {
+        list[entry] = UNTOUCHED;
+    }
+    written = relay_label(site, asked.site_length, factory,
+                          asked.factory_length, asked.variable, list, entries);
+    same = written == expected && !labels_changed();
+    for (entry = 0; entry < LIST; entry++) {
+        same = same && list[entry] ==
+                           (entry < expected ? numbers[entry] : UNTOUCHED);
+    }
+    if (same) {
+        return 0;
+    }
+    printf("boundary: %s, list of %zu: %zu written, expected %zu\n", name,
+           entries, written, expected);
+    for (entry = 0; entry < LIST; entry++) {
+        printf("  %" PRIu32 ", expected %" PRIu32 "\n", list[entry],
+               entry < expected ? numbers[entry] : UNTOUCHED);
+    }
+    printf("  lists %s\n", labels_changed() ? "wrong" : "right");
+    return 1;
+}
+
+/* The first so many bytes of both lists, and every length that the list of the
+ * answer may have. */
+static int label(const char *name, size_t site_length, size_t factory_length,
+                 uint32_t variable, struct part part)
+{
+    const struct asked asked = {site_length, factory_length, variable};
+    size_t entries;
+    int wrong = 0;
+
+    for (entries = 0; entries <= LIST; entries++) {
+        wrong = wrong || label_with(entries, name, asked, part);
+    }
+    return wrong;
+}
+
+static int labels(void)
+{
+    const struct part none = {RELAY_NO_LABEL, 0, 0};
+    const struct part site_0 = {RELAY_SITE_LABEL, 1, RELAY_TEXT_SIZE};
+    const struct part site_1 = {RELAY_SITE_LABEL, 17, RELAY_TEXT_SIZE};
+    const struct part site_63 = {RELAY_SITE_LABEL, 1009, RELAY_TEXT_SIZE};
+    const struct part factory_0 = {RELAY_FACTORY_LABEL, 1, RELAY_TEXT_SIZE};
+    const struct part factory_2 = {RELAY_FACTORY_LABEL, 33, RELAY_TEXT_SIZE};
+    const struct part factory_63 = {
+        RELAY_FACTORY_LABEL, 1009, RELAY_TEXT_SIZE};
+
+    return label("label 0, in both lists", 32, 48, 0, site_0) ||
+           label("label 1, in both lists", 32, 48, 1, site_1) ||
+           label("label 2, in the factory's list", 32, 48, 2, factory_2) ||
+           label("label 3, in neither list", 32, 48, 3, none) ||
+           label("label 256", 32, 48, 256, none) ||
+           label("label 4,294,967,295", 32, 48, UINT32_MAX, none) ||
+           label("label 63, both of 64", 1024, 1024, 63, site_63) ||
+           label("label 64, both of 64", 1024, 1024, 64, none) ||
+           label("label 63, the site's 64", 1024, 0, 63, site_63) ||
+           label("label 63, the factory's 64", 0, 1024, 63, factory_63) ||
+           label("label 0, no lists", 0, 0, 0, none) ||
+           label("label 0, no list of the factory", 16, 0, 0, site_0) ||
+           label("label 0, no list of the site", 0, 16, 0, factory_0) ||
+           label("label 0, site of 17 bytes", 17, 16, 0, none) ||
+           label("label 0, factory of 15 bytes", 16, 15, 0, none) ||
+           label("label 0, site of 1,040 bytes", 1040, 16, 0, none) ||
+           label("label 0, factory of 1,040 bytes", 16, 1040, 0, none);
+}
+
 /* Every case; the first that differs is told. */
 static void *cases(void *wrong)
 {
     *(int *)wrong = checks() || reads() || shows() || swaps() || runs() ||
                     refused_plan(RELAY_HIGHEST_INVERSION + 1) ||
-                    refused_plan(256) || refused_plan(UINT32_MAX) || counts();
+                    refused_plan(256) || refused_plan(UINT32_MAX) || counts() ||
+                    labels();
     return NULL;
 }
 

@@ -32,6 +32,7 @@ static uint8_t table[(RELAY_MOST_RECORDS + 1) * RELAY_RECORD_SIZE];
 static uint8_t roots[(RELAY_MOST_ROOTS + 1) * RELAY_ROOT_SIZE];
 static uint8_t order[RELAY_MOST_VARIABLES + 1];
 static uint8_t target[RELAY_MOST_VARIABLES + 1];
+static uint8_t labels[(RELAY_MOST_LABELS + 1) * RELAY_LABEL_SIZE];
 static uint32_t answer[RELAY_MOST_NUMBERS];
 static uint64_t count[1];
 static double share[1];
@@ -53,6 +54,13 @@ static uint32_t run(size_t records, size_t root_count, uint32_t plan, uint32_t b
 static uint32_t count_a(uint32_t position, size_t entries)
 {
     return (uint32_t)relay_count(table, 24, roots, 2, order, 2, position, count, 1, share, 1, answer, entries);
+}
+
+/* The label of a variable, where both lists are the beginning of `labels`, of so many records. */
+static uint32_t label(size_t site_records, size_t factory_records, uint32_t variable)
+{
+    relay_label(labels, site_records * RELAY_LABEL_SIZE, labels, factory_records * RELAY_LABEL_SIZE, variable, answer, RELAY_LABEL_NUMBERS);
+    return answer[0];
 }
 
 /* Case A: record 0 is 1 (0,1), record 1 is 0 (0, record 0), record 2 is free; the root names record 1; from order 0 1 to 1 0. */
@@ -177,6 +185,29 @@ static void plans(void)
     expect("RELAY_HIGHEST_INVERSION", first_pair(RELAY_HIGHEST_INVERSION), 0);
 }
 
+/* Record i is for variable i. */
+static void label_answers(void)
+{
+    uint8_t i;
+
+    for (i = 0; i <= RELAY_MOST_LABELS; i++) {
+        labels[i * RELAY_LABEL_SIZE] = i;
+    }
+    expect("RELAY_SITE_LABEL", label(2, 2, 1), RELAY_SITE_LABEL);
+    expect("RELAY_LABEL_SIZE", answer[1], RELAY_LABEL_SIZE + 1);
+    expect("RELAY_TEXT_SIZE", answer[2], RELAY_TEXT_SIZE);
+    expect("RELAY_FACTORY_LABEL", label(1, 2, 1), RELAY_FACTORY_LABEL);
+    expect("RELAY_NO_LABEL", label(2, 2, 2), RELAY_NO_LABEL);
+    expect("RELAY_LABEL_NUMBERS", (uint32_t)relay_label(labels, 16, labels, 16, 0, answer, RELAY_LABEL_NUMBERS), RELAY_LABEL_NUMBERS);
+    expect("a shorter list for Label", (uint32_t)relay_label(labels, 16, labels, 16, 0, answer, RELAY_LABEL_NUMBERS - 1), 0);
+    expect("RELAY_MOST_LABELS of the site", label(RELAY_MOST_LABELS, 0, RELAY_MOST_LABELS - 1), RELAY_SITE_LABEL);
+    expect("RELAY_MOST_LABELS of the factory", label(0, RELAY_MOST_LABELS, RELAY_MOST_LABELS - 1), RELAY_FACTORY_LABEL);
+    expect("RELAY_MOST_LABELS and one, of the site", label(RELAY_MOST_LABELS + 1, 1, 0), RELAY_NO_LABEL);
+    expect("RELAY_MOST_LABELS and one, of the factory", label(1, RELAY_MOST_LABELS + 1, 0), RELAY_NO_LABEL);
+    /* No call tells the version: the one that has relay_label is 5. */
+    expect("RELAY_VERSION", 5, RELAY_VERSION);
+}
+
 /* Each limit is taken, and one more is refusal 1. */
 static void limits(void)
 {
@@ -212,6 +243,7 @@ int main(void)
     answers();
     refusals();
     plans();
+    label_answers();
     limits();
     return failures != 0;
 }

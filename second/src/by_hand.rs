@@ -4,7 +4,7 @@ use crate::hold::{hold_library_to, Expected};
 use crate::input::Input;
 use crate::lists::Lengths;
 use crate::model::{Answer, Question};
-use crate::{depths, edges, sheet};
+use crate::{depths, edges, label_edges, sheet};
 
 /// A question, and the answer and the buffers afterwards as the rules say.
 #[derive(Clone)]
@@ -39,7 +39,13 @@ impl Case {
 }
 
 pub fn cases() -> Vec<Case> {
-    [edges::cases(), sheet::cases(), depths::cases()].concat()
+    [
+        edges::cases(),
+        sheet::cases(),
+        depths::cases(),
+        label_edges::cases(),
+    ]
+    .concat()
 }
 
 /// Holds the library to every case whose question is wanted, each asked with
@@ -75,6 +81,13 @@ pub fn used(variable: u8, low: u16, high: u16) -> Bytes {
 pub fn with(mut record: Bytes, position: usize, byte: u8) -> Bytes {
     record[position] = byte;
     record
+}
+
+/// A record of a list of labels: the variable, and its text with the zeros that
+/// are missing of 15 bytes.
+pub fn label_record(variable: u8, text: &[u8]) -> Vec<u8> {
+    let padding = vec![0; 15 - text.len()];
+    [&[variable], text, &padding].concat()
 }
 
 pub fn input(table: &[Bytes], roots: &[u16], order: &[u8]) -> Input {

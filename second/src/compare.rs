@@ -2,7 +2,9 @@
 
 pub mod check;
 pub mod count;
+pub mod label;
 pub mod program;
+mod program_labels;
 pub mod read;
 pub mod repeats;
 pub mod run;
@@ -12,6 +14,7 @@ pub mod swap;
 use crate::counts_kept::counts_kept;
 use crate::hold::{hold_library_to, Expected};
 use crate::input::Input;
+use crate::labels::{Label, List};
 use crate::lists::Lengths;
 use crate::model::{answer, Answer, Question};
 use crate::random::Random;
@@ -67,6 +70,11 @@ fn name(answer: Answer) -> String {
         Answer::NoRoom(_) | Answer::Stuck { .. } => "no room".to_string(),
         Answer::Done { .. } => "done".to_string(),
         Answer::Paused { .. } => "paused".to_string(),
+        Answer::Label(None) => "no label".to_string(),
+        Answer::Label(Some(Label { list, .. })) => match list {
+            List::Site => "a label of the site".to_string(),
+            List::Factory => "a label of the factory".to_string(),
+        },
     }
 }
 

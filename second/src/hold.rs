@@ -1,6 +1,7 @@
 //! The library held to an expected answer, number by number and byte by byte.
 
 use crate::input::Input;
+use crate::labels::List;
 use crate::layout::{RECORD_BYTES, ROOT_BYTES};
 use crate::library;
 use crate::lists::{Lengths, Lists};
@@ -39,6 +40,14 @@ fn numbers(answer: Answer) -> Vec<u32> {
             number(lack.needed),
             number(lack.free),
         ],
+        Answer::Label(None) => vec![0, 0, 0],
+        Answer::Label(Some(label)) => {
+            let list = match label.list {
+                List::Site => 1,
+                List::Factory => 2,
+            };
+            vec![list, number(label.offset), number(label.length)]
+        }
     }
 }
 

@@ -2,7 +2,8 @@
 
 use crate::layout::{Record, RecordNumber, Reference, Store, Variable, FREE_RECORD, RECORD_BYTES};
 
-#[derive(Clone, Debug, PartialEq, Eq)]
+/// Empty by default: what isn't asked of a store has none.
+#[derive(Clone, Debug, Default, PartialEq, Eq)]
 pub struct Input {
     pub table: Vec<u8>,
     pub roots: Vec<u8>,

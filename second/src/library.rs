@@ -54,37 +54,49 @@ pub fn ask(
         .map_err(|error| format!("the library doesn't answer: {error}"))
 }
 
-/// What an entry is asked for besides a store: its place among the entries, a
-/// number, a budget, and one buffer more.
-fn asked(question: &mut Question) -> (u32, u32, u32, &mut [u8]) {
+/// The entry's place among the entries, the number that it is asked for, and the
+/// budget.
+fn asked(question: &Question) -> [u32; 3] {
     match question {
-        Question::Check => (0, 0, 0, &mut []),
-        Question::Read { position, inputs } => (1, *position, 0, inputs),
-        Question::Show { position } => (2, *position, 0, &mut []),
-        Question::Swap { level } => (3, *level, 0, &mut []),
-        Question::Run {
-            target,
-            plan,
-            budget,
-        } => (4, *plan, *budget, target),
-        Question::Count { position } => (5, *position, 0, &mut []),
+        Question::Check => [0, 0, 0],
+        Question::Read { position, .. } => [1, *position, 0],
+        Question::Show { position } => [2, *position, 0],
+        Question::Swap { level } => [3, *level, 0],
+        Question::Run { plan, budget, .. } => [4, *plan, *budget],
+        Question::Count { position } => [5, *position, 0],
+        Question::Label { variable, .. } => [6, *variable, 0],
     }
+}
+
+/// The four buffers of a question: those of the store and one more; or both
+/// lists of labels, and nothing else.
+fn buffers<'a>(input: &'a mut Input, question: &'a mut Question) -> [&'a mut [u8]; 4] {
+    let more: &mut [u8] = match question {
+        Question::Label { site, factory, .. } => return [site, factory, &mut [], &mut []],
+        Question::Read { inputs, .. } => inputs,
+        Question::Run { target, .. } => target,
+        Question::Check
+        | Question::Show { .. }
+        | Question::Swap { .. }
+        | Question::Count { .. } => &mut [],
+    };
+    [&mut input.table, &mut input.roots, &mut input.order, more]
 }
 
 fn put(
     library: &mut Library,
-    input: &Input,
+    input: &mut Input,
     question: &mut Question,
     lists: &Lists,
     lengths: Lengths,
 ) -> io::Result<()> {
-    let (entry, number, budget, more) = asked(question);
-    let buffers = [&input.table, &input.roots, &input.order, &*more];
-    let [table, roots, order, length] = buffers.map(|buffer| buffer.len() as u32);
+    let [entry, number, budget] = asked(question);
+    let buffers = buffers(input, question);
+    let [first, second, third, fourth] = buffers.each_ref().map(|buffer| buffer.len() as u32);
     let [numbers, counts, shares] =
         [lengths.numbers, lengths.counts, lengths.shares].map(|length| length as u32);
     let head = [
-        entry, table, roots, order, length, number, budget, numbers, counts, shares,
+        entry, first, second, third, fourth, number, budget, numbers, counts, shares,
     ];
     for number in head.iter().chain(&lists.numbers) {
         library.questions.write_all(&number.to_le_bytes())?;
@@ -104,7 +116,6 @@ fn taken(
     question: &mut Question,
     lists: &mut Lists,
 ) -> io::Result<usize> {
-    let (_, _, _, more) = asked(question);
     let answers = &mut library.answers;
     let written = u32::from_le_bytes(bytes(answers)?);
     for number in &mut lists.numbers {
@@ -113,10 +124,9 @@ fn taken(
     for place in lists.counts.iter_mut().chain(&mut lists.shares) {
         *place = u64::from_le_bytes(bytes(answers)?);
     }
-    for buffer in [&mut input.table, &mut input.roots, &mut input.order] {
+    for buffer in buffers(input, question) {
         answers.read_exact(buffer)?;
     }
-    answers.read_exact(more)?;
     Ok(written as usize)
 }
 

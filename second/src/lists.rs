@@ -73,6 +73,7 @@ impl Lengths {
         };
         match question {
             Question::Check | Question::Read { .. } | Question::Show { .. } => without_places(2),
+            Question::Label { .. } => without_places(3),
             Question::Swap { .. } => without_places(4),
             Question::Run { .. } => without_places(6),
             Question::Count { .. } => Lengths {

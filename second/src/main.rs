@@ -2,11 +2,12 @@
 //! library, and both compared on cases made by hand and at random.
 //!
 //! `layout`, `refusals`, `value`, `count`, `share`, `swap`, `plans`, `slice`,
-//! `model` and `printed` are the reading of the rules, and `kept` holds that
-//! reading to what it must keep. `library` is the other side, in a process of
-//! its own, `hold` and `compare` ask both, and `counts_kept` holds the library
-//! to what it must keep. The cases made by hand are in `edges`, `sheet`,
-//! `depths` and `texts`; the rest makes random ones.
+//! `labels`, `model` and `printed` are the reading of the rules, and `kept`
+//! holds that reading to what it must keep. `library` is the other side, in a
+//! process of its own, `hold` and `compare` ask both, and `counts_kept` holds
+//! the library to what it must keep. The cases made by hand are in `edges`,
+//! `sheet`, `depths`, `label_edges`, `texts` and `label_texts`; the rest makes
+//! random ones.
 
 mod bucket;
 mod by_hand;
@@ -22,6 +23,10 @@ mod generate;
 mod hold;
 mod input;
 mod kept;
+mod label_edges;
+mod label_lists;
+mod label_texts;
+mod labels;
 mod layout;
 mod library;
 mod lists;
@@ -52,9 +57,9 @@ use crate::model::Question;
 use crate::tally::Tally;
 
 const USAGE: &str = "\
-usage: compare library ASK [check | read | show | swap | run | count | repeats] [number of random questions]
+usage: compare library ASK [check | read | show | swap | run | count | repeats | label] [number of random questions]
        compare program TRIP [number of random runs]
-ASK: the program of ask.c, linked with the library; without a word after it: all seven.
+ASK: the program of ask.c, linked with the library; without a word after it: all eight.
 RELAY_RUN names x86_64/run where these programs can't be run by themselves.";
 
 /// A comparison that a word asks for.
@@ -66,7 +71,7 @@ struct Part {
     compare: fn(u64) -> Result<Tally, String>,
 }
 
-const PARTS: [Part; 7] = [
+const PARTS: [Part; 8] = [
     Part {
         word: "check",
         is_asked_by: Some(|question| matches!(question, Question::Check)),
@@ -108,6 +113,12 @@ const PARTS: [Part; 7] = [
         is_asked_by: None,
         questions: compare::repeats::QUESTIONS,
         compare: compare::repeats::compare,
+    },
+    Part {
+        word: "label",
+        is_asked_by: Some(|question| matches!(question, Question::Label { .. })),
+        questions: compare::label::QUESTIONS,
+        compare: compare::label::compare,
     },
 ];
 

@@ -1,7 +1,8 @@
-//! What may be asked: the six operations, and the answers to them.
+//! What may be asked: the seven operations, and the answers to them.
 
 use crate::count;
 use crate::input::Input;
+use crate::labels::{label, Label};
 use crate::layout::RECORD_BYTES;
 use crate::plans;
 use crate::refusals::{first_refusal, Arguments, Refusal};
@@ -10,7 +11,8 @@ use crate::slice::slice;
 use crate::swap::{swap, Lack};
 use crate::value::value;
 
-/// What is asked of a table, its roots and order.
+/// What is asked of a table, its roots and order; a label is asked for without
+/// them.
 #[derive(Clone, Debug, PartialEq, Eq)]
 pub enum Question {
     Check,
@@ -33,11 +35,17 @@ pub enum Question {
     Count {
         position: u32,
     },
+    /// The variable is any number, also one that no byte can name.
+    Label {
+        site: Vec<u8>,
+        factory: Vec<u8>,
+        variable: u32,
+    },
 }
 
 #[derive(Clone, Copy, Debug, PartialEq, Eq)]
 pub enum Answer {
-    /// Any operation but Show.
+    /// Any operation but Show and Label.
     Refused(Refusal),
     /// Check, with the number of used records.
     Accepted {
@@ -73,6 +81,8 @@ pub enum Answer {
         count: u64,
         share: u64,
     },
+    /// Label: none where the part is empty.
+    Label(Option<Label>),
 }
 
 const EMPTY_PART: Answer = Answer::Part {
@@ -83,7 +93,7 @@ const EMPTY_PART: Answer = Answer::Part {
 /// The answer; the input becomes what it is afterwards. Where it is a refusal,
 /// that is what it was before.
 pub fn answer(input: &mut Input, question: &Question) -> Answer {
-    let refusal = first_refusal(input.store(), arguments(question));
+    let refusal = arguments(question).and_then(|arguments| first_refusal(input.store(), arguments));
     match (question, refusal) {
         // Show has no number to tell: its part is empty instead.
         (Question::Show { .. }, Some(_)) => EMPTY_PART,
@@ -101,13 +111,22 @@ pub fn answer(input: &mut Input, question: &Question) -> Answer {
             None,
         ) => run(input, target, *plan, *budget),
         (Question::Count { position }, None) => count_root(input, *position),
+        (
+            Question::Label {
+                site,
+                factory,
+                variable,
+            },
+            None,
+        ) => Answer::Label(label(site, factory, *variable)),
     }
 }
 
-/// The arguments that each operation has got.
-fn arguments(question: &Question) -> Arguments<'_> {
+/// The arguments that each operation has got; none for Label, which makes no
+/// check.
+fn arguments(question: &Question) -> Option<Arguments<'_>> {
     let none = Arguments::default();
-    match question {
+    let arguments = match question {
         Question::Check => none,
         Question::Read { position, inputs } => Arguments {
             position: Some(*position),
@@ -127,7 +146,9 @@ fn arguments(question: &Question) -> Arguments<'_> {
             plan: Some(*plan),
             ..none
         },
-    }
+        Question::Label { .. } => return None,
+    };
+    Some(arguments)
 }
 
 fn check(input: &Input) -> Answer {

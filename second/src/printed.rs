@@ -1,45 +1,114 @@
 //! What the program prints: the last part of the bench sheet.
 
 use crate::input::Input;
-use crate::layout::Store;
+use crate::labels;
+use crate::layout::RecordNumber;
 use crate::model::{answer, Answer, Question};
 use crate::refusals::Refusal;
 
 /// The files in the order of the arrays below: table, roots, order, target,
-/// plan.
-pub const NAMES: [&str; 5] = ["trip.nod", "trip.rts", "trip.ord", "trip.tgt", "trip.pln"];
+/// plan, and the lists of labels, the site's and the factory's.
+pub const NAMES: [&str; 7] = [
+    "trip.nod", "trip.rts", "trip.ord", "trip.tgt", "trip.pln", "trip.lbs", "trip.lbf",
+];
+
+/// The places of some of them.
+pub const TABLE: usize = 0;
+pub const ROOTS: usize = 1;
+pub const PLAN: usize = 4;
+pub const SITE: usize = 5;
+pub const FACTORY: usize = 6;
 
 /// What each of the files holds; none where it is missing.
-pub type Files = [Option<Vec<u8>>; 5];
+pub type Files = [Option<Vec<u8>>; 7];
 
-/// The whole standard output. A file that is missing counts as empty. The
-/// limits of the files are those of check 1, which a run makes anyway; only the
-/// plan's file has rules of its own.
-pub fn printed(files: &Files) -> String {
-    let [table, roots, order, target, plan] = files.clone();
-    let mut input = Input {
-        table: table.unwrap_or_default(),
-        roots: roots.unwrap_or_default(),
-        order: order.unwrap_or_default(),
-    };
-    let plan = plan_number(plan.as_deref());
-    let question = Question::Run {
-        target: target.unwrap_or_default(),
-        plan: plan.unwrap_or(NO_PLAN),
-        // The largest there is.
-        budget: u32::MAX,
-    };
-    let lines = match answer(&mut input, &question) {
-        Answer::Refused(refusal) => vec![refused(refusal, plan)],
-        answer => {
-            let plan = plan.expect("a run without a plan is refused");
-            let mut lines = vec![format!("plan {plan}"), outcome(answer)];
-            lines.extend(listing(input.store()));
-            lines
+/// A line without its newline. A label may have any bytes.
+type Line = Vec<u8>;
+
+/// What came of a run of the program.
+pub struct Run {
+    /// None where the file doesn't give a number.
+    pub plan: Option<u32>,
+    pub answer: Answer,
+    pub after: Input,
+    site: Vec<u8>,
+    factory: Vec<u8>,
+}
+
+impl Run {
+    /// A file that is missing counts as empty. The limits of the store's files
+    /// are those of check 1, which a run makes anyway, and those of the labels'
+    /// files are those of the lists; only the plan's file has rules of its own.
+    pub fn of(files: &Files) -> Run {
+        let [table, roots, order, target, plan, site, factory] = files.clone();
+        let mut input = Input {
+            table: table.unwrap_or_default(),
+            roots: roots.unwrap_or_default(),
+            order: order.unwrap_or_default(),
+        };
+        let plan = plan_number(plan.as_deref());
+        let question = Question::Run {
+            target: target.unwrap_or_default(),
+            plan: plan.unwrap_or(NO_PLAN),
+            // The largest there is.
+            budget: u32::MAX,
+        };
+        Run {
+            plan,
+            answer: answer(&mut input, &question),
+            after: input,
+            site: site.unwrap_or_default(),
+            factory: factory.unwrap_or_default(),
         }
-    };
-    // The last line has a newline too.
-    lines.iter().map(|line| format!("{line}\n")).collect()
+    }
+
+    /// The whole standard output.
+    pub fn text(&self) -> Vec<u8> {
+        let lines = match self.answer {
+            Answer::Refused(refusal) => vec![refused(refusal, self.plan).into_bytes()],
+            answer => {
+                let plan = self.plan.expect("a run without a plan is refused");
+                let first = [format!("plan {plan}"), outcome(answer)].map(String::into_bytes);
+                [first.to_vec(), self.listing()].concat()
+            }
+        };
+        // The last line has a newline too.
+        let with_newline = |line: &Line| [line.as_slice(), b"\n"].concat();
+        lines.iter().flat_map(with_newline).collect()
+    }
+
+    /// The label of a variable, padding and all.
+    pub fn label(&self, variable: u8) -> Option<&[u8]> {
+        labels::text(&self.site, &self.factory, u32::from(variable))
+    }
+
+    /// The order, the lines of each record, and the roots.
+    fn listing(&self) -> Vec<Line> {
+        let store = self.after.store();
+        let order = store.order.iter().map(|variable| variable.to_string());
+        let roots = store.roots().map(|root| root.0.to_string());
+        let mut lines = vec![words("order", order)];
+        for number in store.record_numbers() {
+            lines.extend(self.lines_of(number));
+        }
+        lines.push(words("roots", roots));
+        lines
+    }
+
+    /// One line, and one more for a used record whose variable has a label.
+    fn lines_of(&self, number: RecordNumber) -> Vec<Line> {
+        let store = self.after.store();
+        if store.is_free(number) {
+            return vec![format!("{} free", number.0).into_bytes()];
+        }
+        let record = store.record(number);
+        let line = format!(
+            "{} {} {} {}",
+            number.0, record.variable.0, record.low.0, record.high.0
+        );
+        let label = self.label(record.variable.0).map(before_zero);
+        [line.into_bytes()].into_iter().chain(label).collect()
+    }
 }
 
 /// The one byte of the file, or 0 where it is missing; none for a file of any
@@ -76,32 +145,18 @@ fn outcome(answer: Answer) -> String {
     }
 }
 
-/// The order, a line for each record, and the roots.
-fn listing(store: Store) -> Vec<String> {
-    let order = store.order.iter().map(|variable| variable.to_string());
-    let roots = store.roots().map(|root| root.0.to_string());
-    let mut lines = vec![words("order", order)];
-    lines.extend(store.record_numbers().map(|number| {
-        if store.is_free(number) {
-            format!("{} free", number.0)
-        } else {
-            let record = store.record(number);
-            format!(
-                "{} {} {} {}",
-                number.0, record.variable.0, record.low.0, record.high.0
-            )
-        }
-    }));
-    lines.push(words("roots", roots));
-    lines
+/// All of a label where it has no zero; nothing where it begins with one.
+fn before_zero(label: &[u8]) -> Line {
+    let bytes = label.iter().copied();
+    bytes.take_while(|&byte| byte != 0).collect()
 }
 
 /// With no other word the first stands alone, and no space after it.
-fn words(first: &str, rest: impl Iterator<Item = String>) -> String {
+fn words(first: &str, rest: impl Iterator<Item = String>) -> Line {
     let mut line = first.to_string();
     for word in rest {
         line.push(' ');
         line.push_str(&word);
     }
-    line
+    line.into_bytes()
 }

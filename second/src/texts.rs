@@ -3,33 +3,38 @@
 
 use crate::by_hand::{chain, chain_of, used, A_0, A_1, FREE};
 use crate::input::Input;
-use crate::printed::Files;
+use crate::label_texts;
+use crate::printed::{Files, PLAN};
 
-pub fn cases() -> Vec<(Files, String)> {
-    [
+pub fn cases() -> Vec<(Files, Vec<u8>)> {
+    let without_labels = [
         not_refused().into_iter().flat_map(by_every_plan).collect(),
         chain_by_each_plan(),
         refused().into_iter().flat_map(whatever_the_plan).collect(),
         bad_plans(),
         at_the_limits(),
     ]
-    .concat()
+    .concat();
+    let in_bytes = |(files, text): (Files, String)| (files, text.into_bytes());
+    let without_labels = without_labels.into_iter().map(in_bytes);
+    without_labels.chain(label_texts::cases()).collect()
 }
 
-/// All files but trip.pln.
-fn files(table: &[u8], roots: &[u8], order: &[u8], target: &[u8]) -> Files {
+/// All files but trip.pln and those of labels.
+pub fn files(table: &[u8], roots: &[u8], order: &[u8], target: &[u8]) -> Files {
     let [table, roots, order, target] =
         [table, roots, order, target].map(|bytes| Some(bytes.to_vec()));
-    [table, roots, order, target, None]
+    [table, roots, order, target, None, None, None]
 }
 
-fn with_plan(files: &Files, plan: &[u8]) -> Files {
-    let [table, roots, order, target, _] = files.clone();
-    [table, roots, order, target, Some(plan.to_vec())]
+pub fn with_plan(files: &Files, plan: &[u8]) -> Files {
+    let mut files = files.clone();
+    files[PLAN] = Some(plan.to_vec());
+    files
 }
 
 /// The table of case A, order 0 1.
-fn a(roots: &[u8], target: &[u8]) -> Files {
+pub fn a(roots: &[u8], target: &[u8]) -> Files {
     files(&[A_0, A_1, FREE].concat(), roots, &[0, 1], target)
 }
 
@@ -39,7 +44,7 @@ fn b(roots: &[u8]) -> Files {
 }
 
 /// B with a root to each record: the lower one doesn't die.
-fn b_both_named() -> Files {
+pub fn b_both_named() -> Files {
     b(&[3, 0, 2, 0])
 }
 
@@ -51,7 +56,8 @@ fn f() -> Files {
 
 /// A, B, C, F and G of the bench sheet, with the text after the plan's line.
 fn not_refused() -> Vec<(Files, &'static str)> {
-    let only_orders = [None, None, Some(vec![0, 1, 2]), Some(vec![2, 1, 0]), None];
+    let [order, target] = [[0, 1, 2], [2, 1, 0]].map(|bytes| Some(bytes.to_vec()));
+    let only_orders = [None, None, order, target, None, None, None];
     vec![
         (
             a(&[3, 0], &[1, 0]),
@@ -143,9 +149,8 @@ fn listed_chain([a, b, c, d, e, f]: [u8; 6], roots: &str) -> String {
 
 /// No files, and A spoilt.
 fn refused() -> Vec<(Files, &'static str)> {
-    let none = [None, None, None, None, None];
     vec![
-        (none, "refused 1 place 0\n"),
+        (Files::default(), "refused 1 place 0\n"),
         (a(&[3], &[1, 0]), "refused 1 place 0\n"),
         (a(&[3, 0], &[1, 1]), "refused 3 place 1\n"),
         (a(&[], &[1, 0]), "refused 9 place 1\n"),
@@ -236,12 +241,12 @@ fn at_the_limits() -> Vec<(Files, String)> {
 #[cfg(test)]
 mod tests {
     use super::cases;
-    use crate::printed::printed;
+    use crate::printed::Run;
 
     #[test]
     fn the_model_prints_the_text_made_by_hand() {
         for (files, text) in cases() {
-            assert_eq!(printed(&files), text);
+            assert!(Run::of(&files).text() == text, "{}", text.escape_ascii());
         }
     }
 }

@@ -5,14 +5,16 @@ use std::fs;
 use std::path::{Path, PathBuf};
 use std::process;
 
-use super::random_questions;
+use super::{name, program_labels, random_questions};
 use crate::generate::{accepted, busy, random_order};
 use crate::hold::groups;
 use crate::input::Input;
+use crate::labels::LABEL_BYTES;
 use crate::layout::{RECORD_BYTES, ROOT_BYTES};
 use crate::machine::command;
-use crate::plans::PLANS;
-use crate::printed::{printed, Files, NAMES};
+use crate::model::Answer;
+use crate::plans::{plan, PLANS};
+use crate::printed::{Files, Run, NAMES, PLAN, ROOTS};
 use crate::random::Random;
 use crate::sample::sample;
 use crate::tally::Tally;
@@ -21,7 +23,7 @@ use crate::texts;
 pub const QUESTIONS: u64 = 2_000;
 const FIRST_SEED: u64 = 20_700_000;
 /// The most bytes that each of the files may have.
-const LIMITS: [usize; 5] = [32_768, 128, 32, 32, 1];
+const LIMITS: [usize; 7] = [32_768, 128, 32, 32, 1, 1_024, 1_024];
 
 /// Holds the program to the cases made by hand; how many there are, or the
 /// first report.
@@ -60,6 +62,7 @@ pub fn compare(program: &Path, count: u64) -> Result<Tally, String> {
         .line("trip.pln with no plan's byte", 20)
         .line("trip.pln of two bytes", 20)
         .line("trip.pln of thousands of bytes", 20);
+    let tally = program_labels::lines(tally, count);
     random_questions(tally, FIRST_SEED, count, |random, tally| {
         one(&program, &folder, random, tally)
     })
@@ -78,28 +81,27 @@ fn one(
     tally: &mut Tally,
 ) -> Result<(), String> {
     let files = random_files(random);
-    let text = printed(&files);
-    hold_program_to(program, folder, &files, &text)?;
+    let run = Run::of(&files);
+    hold_program_to(program, folder, &files, &run.text())?;
     tally.call();
-    count_text(&text, tally);
+    count_run(&run, tally);
     count_files(&files, tally);
-    let bad_plan = !matches!(files[4].as_deref(), None | Some([0..=3]));
-    let lower = text.starts_with("refused ") && !text.starts_with("refused 13 ");
-    tally.count_if(bad_plan && lower, "refused 1 to 9, with a bad plan besides");
+    program_labels::count(&run, &files, tally);
     Ok(())
 }
 
-/// Counts the plan's line, where there is one, and the answer.
-fn count_text(text: &str, tally: &mut Tally) {
-    let answer = match text.split_once('\n') {
-        Some((plan, rest)) if plan.starts_with("plan ") => {
-            tally.count(plan);
-            rest
-        }
-        _ => text,
-    };
-    tally.count(&first_words(answer));
-    let stuck_later = answer.starts_with("no room") && !answer.starts_with("no room swaps 0 ");
+/// Counts the answer and, where it isn't a refusal, the plan.
+fn count_run(run: &Run, tally: &mut Tally) {
+    tally.count(&name(run.answer));
+    if let Answer::Refused(refusal) = run.answer {
+        let bad_plan = run.plan.is_none_or(|number| plan(number).is_none());
+        let besides = bad_plan && refusal.number != 13;
+        tally.count_if(besides, "refused 1 to 9, with a bad plan besides");
+        return;
+    }
+    let plan = run.plan.expect("a run without a plan is refused");
+    tally.count(&format!("plan {plan}"));
+    let stuck_later = matches!(run.answer, Answer::Stuck { swaps: 1.., .. });
     tally.count_if(stuck_later, "no room after some swaps");
 }
 
@@ -113,23 +115,15 @@ fn count_files(files: &Files, tally: &mut Tally) {
             }
         }
     }
-    let odd = files[1].as_ref().is_some_and(|roots| roots.len() % 2 == 1);
+    let odd = files[ROOTS]
+        .as_ref()
+        .is_some_and(|roots| roots.len() % 2 == 1);
     tally.count_if(odd, "trip.rts odd");
-    match files[4].as_deref() {
+    match files[PLAN].as_deref() {
         Some([4..=255]) => tally.count("trip.pln with no plan's byte"),
         Some([_, _]) => tally.count("trip.pln of two bytes"),
         Some(many) if many.len() >= 1_000 => tally.count("trip.pln of thousands of bytes"),
         _ => {}
-    }
-}
-
-/// What the tally calls the answer: "done", "no room" or "refused" and a
-/// number.
-fn first_words(answer: &str) -> String {
-    let words: Vec<&str> = answer.split_whitespace().collect();
-    match words[0] {
-        "done" => "done".to_string(),
-        _ => words[..2].join(" "),
     }
 }
 
@@ -140,7 +134,7 @@ fn hold_program_to(
     program: &Path,
     folder: &Folder,
     files: &Files,
-    text: &str,
+    text: &[u8],
 ) -> Result<(), String> {
     folder.fill(files)?;
     let output = command(program)
@@ -148,13 +142,14 @@ fn hold_program_to(
         .output()
         .map_err(|error| format!("{} does not run: {error}", program.display()))?;
     let told = !output.stderr.is_empty();
-    if told || output.status.code() != Some(0) || output.stdout != text.as_bytes() {
+    if told || output.status.code() != Some(0) || output.stdout != text {
         return Err(format!(
-            "{}program, {}, standard error:\n{}\nstandard output:\n{}\nexpected, exit status 0:\n{text}",
+            "{}program, {}, standard error:\n{}\nstandard output:\n{}\nexpected, exit status 0:\n{}",
             hex(files),
             output.status,
-            String::from_utf8_lossy(&output.stderr),
-            String::from_utf8_lossy(&output.stdout)
+            in_lines(&output.stderr),
+            in_lines(&output.stdout),
+            in_lines(text)
         ));
     }
     if folder.files()? != *files {
@@ -163,8 +158,15 @@ fn hold_program_to(
     Ok(())
 }
 
+/// A newline stays one; any other byte that is no letter or sign is written out.
+fn in_lines(bytes: &[u8]) -> String {
+    let lines = bytes.split(|&byte| byte == b'\n');
+    let lines: Vec<String> = lines.map(|line| line.escape_ascii().to_string()).collect();
+    lines.join("\n")
+}
+
 fn hex(files: &Files) -> String {
-    let sizes = [RECORD_BYTES, ROOT_BYTES, 1, 1, 1];
+    let sizes = [RECORD_BYTES, ROOT_BYTES, 1, 1, 1, LABEL_BYTES, LABEL_BYTES];
     let mut text = String::new();
     for ((name, file), size) in NAMES.iter().zip(files).zip(sizes) {
         text += &match file {
@@ -231,6 +233,7 @@ fn random_files(random: &mut Random) -> Files {
     };
     let target = random_target(&input, random);
     let plan = random_plan(random);
+    let variables = program_labels::variables(&input);
     let [table, roots, order, target] = [input.table, input.roots, input.order, target].map(Some);
     let mut files = [table, roots, order, target, plan];
     if random.once_in(3) {
@@ -238,9 +241,11 @@ fn random_files(random: &mut Random) -> Files {
         damage(&mut files[place], LIMITS[place], random);
     }
     if random.once_in(20) {
-        files[1].get_or_insert_default().push(0);
+        files[ROOTS].get_or_insert_default().push(0);
     }
-    files
+    let [table, roots, order, target, plan] = files;
+    let [site, factory] = program_labels::random_files(&variables, random);
+    [table, roots, order, target, plan, site, factory]
 }
 
 fn random_target(input: &Input, random: &mut Random) -> Vec<u8> {
