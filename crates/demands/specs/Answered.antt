@@ -12,7 +12,7 @@ use mathlib.Core.Path.{_≡_, ap, sym, _∙_}
 use lib.ListN.{length}
 use Rattle.lists.specs.Apart.{apart}
 use Rattle.lists.specs.Count.{bit}
-use Rattle.diagrams.specs.Layout.{records}
+use Rattle.diagrams.specs.Layout.{recordSize, records}
 use Rattle.plans.specs.Inversions.{left}
 use Rattle.plans.specs.Numbered.{planOf}
 use Rattle.checks.specs.Stages.{refusal, FailsFirst}
@@ -23,9 +23,11 @@ use Rattle.checks.specs.declared.Refusal.{Refusal}
 use Rattle.checks.specs.declared.CheckAnswer.{CheckAnswer}
 use Rattle.checks.specs.declared.CheckAnswer.the-variants as checked
 use Rattle.reading.specs.Read.{readStages, readOf, ReadOutcome}
-use Rattle.showing.specs.Show.{noPart, partAt, partOf, ShowOutcome}
+use Rattle.parts.specs.Part.{noPart}
+use Rattle.parts.specs.Lent.{Lent}
+use Rattle.showing.specs.Show.{partAt, partOf, ShowOutcome}
 use Rattle.showing.specs.Parts as show
-use Rattle.showing.specs.Parts.{Nothing, Something, Lent}
+use Rattle.showing.specs.Parts.{Nothing, Something}
 use Rattle.reading.specs.Theorems as read
 use Rattle.reading.specs.Theorems.{Reads}
 use Rattle.reading.specs.declared.ReadAnswer.{ReadAnswer}
@@ -84,7 +86,7 @@ module _ (t r o : List ℕ) where
 
     -- what is handed back is the caller's own memory: in the table's block, the part's offset after its first byte, 0 or 8 bytes long, and within the table
     pub show-lent : {table pointer : ℕ × ℕ} {bytes : List ℕ} → ShowOutcome t r o position table pointer bytes
-        → Lent t table pointer (partOf t r o position .0) bytes
+        → Lent t table pointer (partOf t r o position .0) recordSize bytes
     show-lent s = show.show-lent t r o position s
 
     pub show-one : (table : ℕ × ℕ) {p q : ℕ × ℕ} {a b : List ℕ} → ShowOutcome t r o position table p a

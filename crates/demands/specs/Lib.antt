@@ -7,3 +7,4 @@ pub mod Operations
 pub mod Kept
 pub mod Counted
 pub mod Sliced
+pub mod Labelled

@@ -6,7 +6,7 @@ use mathlib.Core.Bool.{Bool, cond, not, _||_}
 use mathlib.Core.List.{List, [], _∷_}
 use lib.Dec.{eqb, ltb}
 use lib.ListN.{length, getD}
-use Rattle.lists.specs.First.{first, any}
+use Rattle.lists.specs.First.{first}
 use Rattle.parts.specs.Part.{partFrom, noPart, bytesIn, Handed}
 use Rattle.parts.specs.Part as part
 use Rattle.parts.specs.declared.Part.{Part}
@@ -51,7 +51,7 @@ firstFor l v = first (names l v) (labelCount l)
 
 -- there is one
 abbrev pub named : List ℕ → ℕ → Bool
-named l v = any (names l v) (labelCount l)
+named l v = ltb (firstFor l v) (labelCount l)
 
 -- ---- the label of variable v, from the site's list s and the factory's list f
 

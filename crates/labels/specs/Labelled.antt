@@ -114,6 +114,9 @@ none-for l v h i r = refutes (names-says l v i) (first-passed (names l v) (label
 pub text-inside : (l : List ℕ) {i : ℕ} → i < labelCount l → Inside (textPart i) l
 text-inside l h = record { begins = omega arith; ends = omega arith }
 
+same-part : {i j : ℕ} → textPart i ≡ textPart j → i ≡ j
+same-part e = omega (arith, ap (λ (p : Part). p .0) e)
+
 -- only one record is the first
 first-one : {l : List ℕ} {v i j : ℕ} → FirstFor l v i → FirstFor l v j → i ≡ j
 first-one {i = i} {j = j} p q =
@@ -189,12 +192,12 @@ module _ (s f : List ℕ) (v : ℕ) where
       go (site w e) = e ∙ ap (λ j. Site (textPart j)) (first-one (w .first) (u .first))
       go (factory w e) = absurd (not-both u w)
 
-  pub site-only : (p : Part) → labelOf s f v ≡ Site p → (i : ℕ) × (FromSite s f v i × (p ≡ textPart i))
-  site-only p q = go labelled
+  pub site-only : {i : ℕ} → labelOf s f v ≡ Site (textPart i) → FromSite s f v i
+  site-only {i} q = go labelled
     where
-      go : Labelled s f v → (i : ℕ) × (FromSite s f v i × (p ≡ textPart i))
+      go : Labelled s f v → FromSite s f v i
       go (nowhere w e) = apart (cc)
-      go (site {i} w e) = (i, (w, cc))
+      go (site {i = j} w e) = let z : textPart j ≡ textPart i = cc in rw (same-part z) at w
       go (factory w e) = apart (cc)
 
   pub factory-if : {i : ℕ} → FromFactory s f v i → labelOf s f v ≡ Factory (textPart i)
@@ -205,13 +208,13 @@ module _ (s f : List ℕ) (v : ℕ) where
       go (site w e) = absurd (not-both w u)
       go (factory w e) = e ∙ ap (λ j. Factory (textPart j)) (first-one (w .first) (u .first))
 
-  pub factory-only : (p : Part) → labelOf s f v ≡ Factory p → (i : ℕ) × (FromFactory s f v i × (p ≡ textPart i))
-  factory-only p q = go labelled
+  pub factory-only : {i : ℕ} → labelOf s f v ≡ Factory (textPart i) → FromFactory s f v i
+  factory-only {i} q = go labelled
     where
-      go : Labelled s f v → (i : ℕ) × (FromFactory s f v i × (p ≡ textPart i))
+      go : Labelled s f v → FromFactory s f v i
       go (nowhere w e) = apart (cc)
       go (site w e) = apart (cc)
-      go (factory {i} w e) = (i, (w, cc))
+      go (factory {i = j} w e) = let z : textPart j ≡ textPart i = cc in rw (same-part z) at w
 
   -- ---- where the text stands
 

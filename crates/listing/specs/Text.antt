@@ -2,9 +2,11 @@
 -- docs/RULES.md, 7.2.
 use Prim.Native.Nat.{ℕ}
 use mathlib.Core.Bool.{cond, _||_}
-use mathlib.Core.List.{List, [], _++_}
+use mathlib.Core.List.{List, [], _∷_, _++_}
+use mathlib.Core.Path.{_≡_, refl}
 use lib.Dec.{eqb}
 use lib.ListN.{length, getD}
+use Rattle.lists.specs.First.{first}
 use Rattle.diagrams.specs.Layout.{records, rootCount, variableAt, lowAt, highAt, rootAt, isFree}
 use Rattle.texts.specs.Text.{bytes, decimal, numbered, beforeZero, inTurn}
 
@@ -39,6 +41,11 @@ labelLine text = beforeZero text ++ bytes "\n"
 -- no line after a free record, nor after one whose variable has no label
 unfoldable pub labelText : (ℕ → List ℕ) → List ℕ → ℕ → List ℕ
 labelText label t i = let text = label (variableAt t i) in cond (isFree t i || eqb (length text) 0) [] (labelLine text)
+
+-- a text that begins with a zero has a line, an empty one
+empty-line : labelText (λ v. 0 ∷ 53 ∷ 50 ∷ []) (7 ∷ []) 0 ≡ bytes "\n"
+unfolding first beforeZero labelLine labelText
+empty-line = refl
 
 unfoldable pub recordText : (ℕ → List ℕ) → List ℕ → ℕ → List ℕ
 recordText label t i = recordLine t i ++ labelText label t i

@@ -109,7 +109,8 @@ fn put_label<'a>(
     ensures { λ r.
         ⌜ Put (now (out .entry)) at (labelText (textOf (now (site .entry)) (now (factory .entry))) (now (table .entry)) (i .0)) (now (out .exit)) r ⌝ }
 {
-    if i.is_free(table) {
+    let free = i.is_free(table);
+    if free {
         return at;
     }
     let text = labels::label(site, factory, i.variable(table));

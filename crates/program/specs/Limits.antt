@@ -99,10 +99,13 @@ L = labelSize * mostLabels
 -- a list of labels over its limit labels nothing, whole or cut
 labels-cut : (s f : List ℕ) → textOf (cut L s) (cut L f) ≡ textOf s f
 labels-cut s f =
-    either-side L (length s) (λ l. none (λ v. site-wrong (λ r. omega (arith, r .few, cut-long L s l))) (λ v. site-wrong (λ r. omega (arith, r .few))))
-    (λ a. either-side L (length f) (λ l. none (λ v. factory-wrong (λ r. omega (arith, r .few, cut-long L f l))) (λ v. factory-wrong (λ r. omega (arith, r .few))))
+    either-side L (length s) (λ l. none (λ v. site-wrong (long (cut-long L s l))) (λ v. site-wrong (long l)))
+    (λ a. either-side L (length f) (λ l. none (λ v. factory-wrong (long (cut-long L f l))) (λ v. factory-wrong (long l)))
     (λ b. rw (whole L s a, whole L f b)))
   where
+    long : {l : List ℕ} → L < length l → RightLength l → ⊥
+    long h r = omega (arith, r .few)
+
     none : {s f s′ f′ : List ℕ} → ((v : ℕ) → Unlabelled s f v) → ((v : ℕ) → Unlabelled s′ f′ v) → textOf s f ≡ textOf s′ f′
     none u w = fun-ext (λ v. text-empty-if _ _ v (u v) ∙ sym (text-empty-if _ _ v (w v)))
 

@@ -20,8 +20,10 @@ use texts::put_numbered;
 
 // The most bytes that are printed of a full store, with one variable more than an order may have: 21 a record and a whole text with the end of its
 // line, 6 a root, 4 a variable, and 186 for the first two lines and the words.
-pub const MOST_TEXT: usize =
-    (21 + (TEXT_SIZE + 1)) * MOST_RECORDS + 6 * MOST_ROOTS + 4 * (Order::CEILING + 1) + 186;
+pub const MOST_TEXT: usize = (21 + (TEXT_SIZE + 1)) * MOST_RECORDS
+    + 6 * MOST_ROOTS
+    + 4 * (Order::CEILING + 1)
+    + 186;
 
 // ---- the line of the answer
 
@@ -125,7 +127,8 @@ fn put_store<'a>(
     requires { ⌜ Space (now out) at (storeText answer (textOf (now site) (now factory)) (now table) (now roots) (now order)) ⌝ }
     ensures { λ r.
         ⌜ Put (now (out .entry)) at
-        (storeText answer (textOf (now (site .entry)) (now (factory .entry))) (now (table .entry)) (now (roots .entry)) (now (order .entry))) (now (out .exit)) r ⌝ }
+        (storeText answer (textOf (now (site .entry)) (now (factory .entry))) (now (table .entry)) (now (roots .entry)) (now (order .entry)))
+        (now (out .exit)) r ⌝ }
 {
     if is_refused(answer) {
         return at;

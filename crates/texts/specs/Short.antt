@@ -82,7 +82,9 @@ word-short word = short (le-refl (length word))
 
 pub before-zero-short : (text : List ℕ) (m : ℕ) → length text ≤ m → Short (beforeZero text) m
 unfolding beforeZero
-before-zero-short text m h = short (omega (arith, length-take-le (firstZero text) text (first-within (isZero text) (length text)), first-within (isZero text) (length text)))
+before-zero-short text m h =
+    let l : firstZero text ≤ length text = first-within (isZero text) (length text) in
+    short (omega (arith, length-take-le (firstZero text) text l))
 
 -- a number n below m, which k + 1 digits hold
 pub decimal-short : (n k m : ℕ) → n < m → T (leb m (10 ^ suc k)) → Short (decimal n) (suc k)

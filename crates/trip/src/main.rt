@@ -78,16 +78,7 @@ fn print<'a>(
     requires { ⌜ Held (now table) (now roots) (now order) ⌝ }
 {
     let mut text = [0u8; program::MOST_TEXT];
-    let n = program::text(
-        table,
-        roots,
-        order,
-        target,
-        plan,
-        site,
-        factory,
-        &mut text,
-    );
+    let n = program::text(table, roots, order, target, plan, site, factory, &mut text);
     if !io::write_all(STDOUT_FILENO, &text[..n]) {
         os::fail(b"standard output");
     }
@@ -105,15 +96,7 @@ fn print_labelled(table: &mut [u8], roots: &[u8], order: &mut [u8], target: &[u8
     let File::Bytes(f) = load_labels(b"trip.lbf", &mut factory) else {
         return;
     };
-    print(
-        table,
-        roots,
-        order,
-        target,
-        plan,
-        &site[..s],
-        &factory[..f],
-    );
+    print(table, roots, order, target, plan, &site[..s], &factory[..f]);
 }
 
 // Each buffer has one byte more than its file may have, so that a file over its limit is known by its length.
