@@ -14,7 +14,6 @@ use Rattle.lists.specs.Truth.{by, or-cases, or-neither}
 use Rattle.parts.specs.Part.{Inside}
 use Rattle.parts.specs.Lent.{nothing-inside}
 use Rattle.parts.specs.declared.Part.{Part}
-use Rattle.labels.specs.declared.Place.{Place}
 use Rattle.labels.specs.declared.Place.the-variants.{Nowhere, Site, Factory}
 use Rattle.labels.specs.Label.{labelSize, mostLabels, badLength, labelCount, InLabels, names, textPart, firstFor, labelOf}
 use Rattle.labels.specs.Label.{chosen, partAt}

@@ -1,6 +1,5 @@
 // The label of an input: the text that the site's own list has for it, or else the factory's.
 ghost use mathlib.Core.Path.{_≡_};
-ghost use Rattle.lists.specs.First.{first};
 ghost use Rattle.labels.specs.Label.{badLength, labelCount, InLabels, names, firstFor, textPart, labelOf, LabelOutcome};
 use diagrams::Variable;
 use diagrams::wide;

@@ -2,19 +2,14 @@
 // function puts its part at a place of the list and hands back the place after it.
 ghost use Prim.Native.Nat.{_<_};
 ghost use lib.ListN.{length};
-ghost use Rattle.diagrams.specs.Layout.{InTable, InRoots};
-ghost use Rattle.texts.specs.Put.{Put, Space};
+ghost use Rattle.diagrams.specs.Layout.{InRoots};
 ghost use Rattle.labels.specs.Label.{textOf};
-ghost use Rattle.listing.specs.Text.{variableText, variablesText, orderLine, fieldsText, contentText, recordLine};
-ghost use Rattle.listing.specs.Text.{labelLine, labelText, recordText, recordsText};
-ghost use Rattle.listing.specs.Text.{rootText, referencesText, rootsLine, listing};
+ghost use Rattle.texts.specs.Put.{Put, Space};
+ghost use Rattle.listing.specs.Text.{variableText, variablesText, orderLine, recordsText, rootText, referencesText, rootsLine, listing};
 use diagrams::RecordNumber;
-use diagrams::Reference;
-use diagrams::Variable;
 use diagrams::wide;
+use record_lines::put_labelled;
 use texts::put;
-use texts::put_before_zero;
-use texts::put_decimal;
 use texts::put_numbered;
 
 // ---- the order
@@ -50,91 +45,6 @@ fn put_order(out: &mut [u8], at: usize, order: &[u8]) -> usize
 }
 
 // ---- the records
-
-fn put_fields(
-    out: &mut [u8],
-    at: usize,
-    variable: Variable,
-    low: Reference,
-    high: Reference,
-) -> usize
-    requires { ⌜ Space (now out) at (fieldsText (variable .0) (low .0) (high .0)) ⌝ }
-    ensures { λ r. ⌜ Put (now (out .entry)) at (fieldsText (variable .0) (low .0) (high .0)) (now (out .exit)) r ⌝ }
-{
-    let after_variable = put_numbered(out, at, b" ", variable.0);
-    let after_low = put_numbered(out, after_variable, b" ", low.0);
-    put_numbered(out, after_low, b" ", high.0)
-}
-
-// What a record holds, or that it is free.
-fn put_content(out: &mut [u8], at: usize, table: &[u8], i: RecordNumber) -> usize
-    requires { ⌜ InTable (now table) (i .0) × Space (now out) at (contentText (now table) (i .0)) ⌝ }
-    ensures { λ r. ⌜ Put (now (out .entry)) at (contentText (now (table .entry)) (i .0)) (now (out .exit)) r ⌝ }
-{
-    if i.is_free(table) {
-        return put(out, at, b" free");
-    }
-    put_fields(out, at, i.variable(table), i.low(table), i.high(table))
-}
-
-fn put_record(out: &mut [u8], at: usize, table: &[u8], i: RecordNumber) -> usize
-    requires { ⌜ InTable (now table) (i .0) × Space (now out) at (recordLine (now table) (i .0)) ⌝ }
-    ensures { λ r. ⌜ Put (now (out .entry)) at (recordLine (now (table .entry)) (i .0)) (now (out .exit)) r ⌝ }
-{
-    let after_number = put_decimal(out, at, i.0);
-    let after_content = put_content(out, after_number, table, i);
-    put(out, after_content, b"\n")
-}
-
-// ---- their labels, from the lists of the site and of the factory
-
-fn put_label_line(out: &mut [u8], at: usize, text: &[u8]) -> usize
-    requires { ⌜ Space (now out) at (labelLine (now text)) ⌝ }
-    ensures { λ r. ⌜ Put (now (out .entry)) at (labelLine (now (text .entry))) (now (out .exit)) r ⌝ }
-{
-    let after_text = put_before_zero(out, at, text);
-    put(out, after_text, b"\n")
-}
-
-// After a used record, the line of its variable's label, where it has one.
-fn put_label<'a>(
-    out: &mut [u8],
-    at: usize,
-    table: &[u8],
-    i: RecordNumber,
-    site: &'a [u8],
-    factory: &'a [u8],
-) -> usize
-    requires { ⌜ InTable (now table) (i .0) × Space (now out) at (labelText (textOf (now site) (now factory)) (now table) (i .0)) ⌝ }
-    ensures { λ r.
-        ⌜ Put (now (out .entry)) at (labelText (textOf (now (site .entry)) (now (factory .entry))) (now (table .entry)) (i .0)) (now (out .exit)) r ⌝ }
-{
-    let free = i.is_free(table);
-    if free {
-        return at;
-    }
-    let text = labels::label(site, factory, i.variable(table));
-    if text.len() == 0 {
-        return at;
-    }
-    put_label_line(out, at, text)
-}
-
-fn put_labelled<'a>(
-    out: &mut [u8],
-    at: usize,
-    table: &[u8],
-    i: RecordNumber,
-    site: &'a [u8],
-    factory: &'a [u8],
-) -> usize
-    requires { ⌜ InTable (now table) (i .0) × Space (now out) at (recordText (textOf (now site) (now factory)) (now table) (i .0)) ⌝ }
-    ensures { λ r.
-        ⌜ Put (now (out .entry)) at (recordText (textOf (now (site .entry)) (now (factory .entry))) (now (table .entry)) (i .0)) (now (out .exit)) r ⌝ }
-{
-    let after_record = put_record(out, at, table, i);
-    put_label(out, after_record, table, i, site, factory)
-}
 
 fn put_records<'a>(
     out: &mut [u8],

@@ -1,10 +1,10 @@
 -- What is handed back as a part is the caller's own memory, and the same for the same part.
 use Prim.Native.Nat.{ℕ, _+_, _-_, _≤_}
-use mathlib.Core.List.{List, []}
+use mathlib.Core.List.{List}
 use mathlib.Core.Logic.{_⊎_}
 use mathlib.Core.Path.{_≡_, ap, sym, _∙_}
 use native.Mathlib.Omega.{arith}
-use lib.ListN.{length, take, drop, length-drop}
+use lib.ListN.{length, drop, length-drop}
 use lib.Seq.{length-take-le}
 use Rattle.parts.specs.declared.Part.{Part}
 use Rattle.parts.specs.Part.{Inside, bytesIn, noPart, Handed}

@@ -11,8 +11,8 @@ use Rattle.slices.specs.declared.RunAnswer.the-variants.{Done, NoRoom, Refused}
 use Rattle.sheet.specs.Sheet.{outcome}
 use Rattle.job.specs.Job.{jobOf}
 use Rattle.texts.specs.Text.{bytes, places, decimal, numbered, beforeZero, inTurn}
-use Rattle.listing.specs.Text.{variableText, orderLine, fieldsText, contentText, recordLine, labelLine, labelText, recordText}
-use Rattle.listing.specs.Text.{rootText, rootsLine, listing}
+use Rattle.record_lines.specs.Text.{fieldsText, contentText, recordLine, labelLine, labelText, recordText}
+use Rattle.listing.specs.Text.{variableText, orderLine, rootText, rootsLine, listing}
 use Rattle.program.specs.Text.{swapsText, lackText, answerText, answerLine, planLine, planText, storeText, printed}
 use Rattle.program.specs.Program.{programText}
 

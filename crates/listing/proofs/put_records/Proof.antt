@@ -2,7 +2,7 @@ use Prim.Native.Nat.{_-_}
 use borrow.Author.Needs.{needs}
 use Rattle.labels.specs.Label.{textOf}
 use Rattle.texts.specs.Put.{Turns, turns}
-use Rattle.listing.specs.Text.{recordText}
+use Rattle.record_lines.specs.Text.{recordText}
 use Rattle.listing.proofs.put_records.Statement.{statement}
 use Rattle.listing.proofs.put_records.Tie as tie
 

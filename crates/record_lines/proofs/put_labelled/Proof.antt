@@ -1,8 +1,8 @@
 use borrow.Author.Needs.{needs}
 use Rattle.texts.specs.Put.{putting}
-use Rattle.listing.specs.Text.{recordText}
-use Rattle.listing.proofs.put_labelled.Statement.{statement}
-use Rattle.listing.proofs.put_labelled.Tie as tie
+use Rattle.record_lines.specs.Text.{recordText}
+use Rattle.record_lines.proofs.put_labelled.Statement.{statement}
+use Rattle.record_lines.proofs.put_labelled.Tie as tie
 
 pub put-labelled-spec : {M : Type 1} → statement M
 unfolding recordText

@@ -1,7 +1,7 @@
 use borrow.Author.Needs.{needs}
-use Rattle.listing.proofs.Laws.{content}
-use Rattle.listing.proofs.put_content.Statement.{statement}
-use Rattle.listing.proofs.put_content.Tie as tie
+use Rattle.record_lines.proofs.Laws.{content}
+use Rattle.record_lines.proofs.put_content.Statement.{statement}
+use Rattle.record_lines.proofs.put_content.Tie as tie
 
 pub put-content-spec : {M : Type 1} → statement M
 put-content-spec =

@@ -1,8 +1,8 @@
 use borrow.Author.Needs.{needs}
 use Rattle.texts.specs.Put.{putting}
-use Rattle.listing.specs.Text.{fieldsText}
-use Rattle.listing.proofs.put_fields.Statement.{statement}
-use Rattle.listing.proofs.put_fields.Tie as tie
+use Rattle.record_lines.specs.Text.{fieldsText}
+use Rattle.record_lines.proofs.put_fields.Statement.{statement}
+use Rattle.record_lines.proofs.put_fields.Tie as tie
 
 pub put-fields-spec : {M : Type 1} → statement M
 unfolding fieldsText

@@ -1,7 +1,7 @@
 use borrow.Author.Needs.{needs}
-use Rattle.listing.proofs.Laws.{labelling}
-use Rattle.listing.proofs.put_label.Statement.{statement}
-use Rattle.listing.proofs.put_label.Tie as tie
+use Rattle.record_lines.proofs.Laws.{labelling}
+use Rattle.record_lines.proofs.put_label.Statement.{statement}
+use Rattle.record_lines.proofs.put_label.Tie as tie
 
 pub put-label-spec : {M : Type 1} → statement M
 put-label-spec =

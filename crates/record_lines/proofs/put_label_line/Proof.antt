@@ -1,8 +1,8 @@
 use borrow.Author.Needs.{needs}
 use Rattle.texts.specs.Put.{putting}
-use Rattle.listing.specs.Text.{labelLine}
-use Rattle.listing.proofs.put_label_line.Statement.{statement}
-use Rattle.listing.proofs.put_label_line.Tie as tie
+use Rattle.record_lines.specs.Text.{labelLine}
+use Rattle.record_lines.proofs.put_label_line.Statement.{statement}
+use Rattle.record_lines.proofs.put_label_line.Tie as tie
 
 pub put-label-line-spec : {M : Type 1} → statement M
 unfolding labelLine

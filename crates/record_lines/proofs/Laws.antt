@@ -10,7 +10,7 @@ use Rattle.diagrams.specs.Layout.{variableAt, lowAt, highAt, isFree}
 use Rattle.labels.specs.Texts.{label-text}
 use Rattle.texts.specs.Text.{bytes}
 use Rattle.texts.specs.Put.{Put, put-nothing, space-as, put-as}
-use Rattle.listing.specs.Text.{fieldsText, contentText, labelLine, labelText}
+use Rattle.record_lines.specs.Text.{fieldsText, contentText, labelLine, labelText}
 
 module _ (t : List ℕ) (i : ℕ) {free : Bool} (flag : free ≡ isFree t i) where
   pub content-free : free ≡ true → contentText t i ≡ bytes " free"

@@ -1,8 +1,8 @@
 use borrow.Author.Needs.{needs}
 use Rattle.texts.specs.Put.{putting}
-use Rattle.listing.specs.Text.{recordLine}
-use Rattle.listing.proofs.put_record.Statement.{statement}
-use Rattle.listing.proofs.put_record.Tie as tie
+use Rattle.record_lines.specs.Text.{recordLine}
+use Rattle.record_lines.proofs.put_record.Statement.{statement}
+use Rattle.record_lines.proofs.put_record.Tie as tie
 
 pub put-record-spec : {M : Type 1} → statement M
 unfolding recordLine
