@@ -6,8 +6,8 @@
  *   roots   up to RELAY_MOST_ROOTS references of RELAY_ROOT_SIZE bytes, one for each output.
  *   order   n bytes, n from 1 to RELAY_MOST_VARIABLES: byte k is the variable at level k; level 0 is the top.
  *   target  n bytes, the order that a run goes towards.
- *   labels  two lists, the site's own and the factory's: up to RELAY_MOST_LABELS records of RELAY_LABEL_SIZE bytes each, byte 0 the
- *           variable, then RELAY_TEXT_SIZE bytes of text, padded with zeros.
+ *   site,   lists of labels, the site's own and the factory's: up to RELAY_MOST_LABELS records of RELAY_LABEL_SIZE bytes, of which
+ *   factory byte 0 is the variable and the other RELAY_TEXT_SIZE its text, with zeros behind it.
  * A reference is RELAY_FALSE, RELAY_TRUE, or RELAY_FIRST_RECORD + i for record i. A record takes its low reference where its
  * variable's input is 0, its high one where it is 1.
  *

@@ -14,8 +14,8 @@ pub fn cases() -> Vec<Case> {
         texts(),
         texts_like_variables(),
         full_lists(),
-        bad_site_lists(),
-        bad_factory_lists(),
+        bad_beside_good(),
+        shortest_and_longest(),
         bad_lists(),
     ]
     .concat()
@@ -175,45 +175,38 @@ fn longer(length: usize) -> Vec<u8> {
     full().into_iter().cycle().take(length).collect()
 }
 
-/// The factory names the variable, and the whole records of the site's list do
+/// Lengths that a list may not have.
+const BAD_LENGTHS: [(&str, usize); 11] = [
+    ("1 byte", 1),
+    ("15 bytes", 15),
+    ("17 bytes", 17),
+    ("31 bytes", 31),
+    ("1,008 bytes and 15", 1_023),
+    ("1,025 bytes", 1_025),
+    ("1,039 bytes", 1_039),
+    ("1,040 bytes", 1_040),
+    ("2,048 bytes", 2_048),
+    ("65,536 bytes", 65_536),
+    ("65,552 bytes", 65_552),
+];
+
+/// The other list names the variable, and the whole records of the bad list do
 /// so too, as far as there are any.
-fn bad_site_lists() -> Vec<Case> {
+fn bad_beside_good() -> Vec<Case> {
     let named = list(&[0]);
-    let with = |name, length| none(name, [&longer(length), &named], 0);
-    vec![
-        with("site of 1 byte", 1),
-        with("site of 15 bytes", 15),
-        with("site of 17 bytes", 17),
-        with("site of 31 bytes", 31),
-        with("site of 1,008 bytes and 15", 1_023),
-        with("site of 1,025 bytes", 1_025),
-        with("site of 1,039 bytes", 1_039),
-        with("site of 1,040 bytes", 1_040),
-        with("site of 2,048 bytes", 2_048),
-        with("site of 65,536 bytes", 65_536),
-        with("site of 65,552 bytes", 65_552),
-        factory("site of 0 bytes", [&[], &named], 0, 1),
-        factory("site of 1,024 bytes", [&full(), &list(&[64])], 64, 1),
-    ]
+    let with = |(name, length)| {
+        let bad = longer(length);
+        [none(name, [&bad, &named], 0), none(name, [&named, &bad], 0)]
+    };
+    BAD_LENGTHS.into_iter().flat_map(with).collect()
 }
 
-/// The same the other way round: the site names it, and is none the less not
-/// heard.
-fn bad_factory_lists() -> Vec<Case> {
+/// The shortest and the longest list, beside one that names the variable.
+fn shortest_and_longest() -> Vec<Case> {
     let named = list(&[0]);
-    let with = |name, length| none(name, [&named, &longer(length)], 0);
     vec![
-        with("factory of 1 byte", 1),
-        with("factory of 15 bytes", 15),
-        with("factory of 17 bytes", 17),
-        with("factory of 31 bytes", 31),
-        with("factory of 1,008 bytes and 15", 1_023),
-        with("factory of 1,025 bytes", 1_025),
-        with("factory of 1,039 bytes", 1_039),
-        with("factory of 1,040 bytes", 1_040),
-        with("factory of 2,048 bytes", 2_048),
-        with("factory of 65,536 bytes", 65_536),
-        with("factory of 65,552 bytes", 65_552),
+        factory("site of 0 bytes", [&[], &named], 0, 1),
+        factory("site of 1,024 bytes", [&full(), &list(&[64])], 64, 1),
         site("factory of 0 bytes", [&named, &[]], 0, 1),
         site("factory of 1,024 bytes", [&named, &full()], 0, 1),
     ]

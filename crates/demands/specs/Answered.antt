@@ -5,6 +5,7 @@
 -- `checkOf`, `readOf`, `partOf`, `swapOf` and `runOf` are the outcomes that the contracts of the entries cite. t is the table, r the roots, o the order
 -- and g the target, each as the list of its bytes. An entry's checks are a list: `checkStages`, `readStages`, `swapStages`, `runStages`.
 -- `FailsFirst` of such a list, with k and p: check k fails at place p, at no place before it, and every check before k passes everywhere.
+-- Of Count and of Label the same is said in `Counted` and in `Labelled`.
 use Prim.Native.Nat.{ℕ, _+_, _≤_, _<_}
 use mathlib.Core.Bool.{Bool}
 use mathlib.Core.List.{List}

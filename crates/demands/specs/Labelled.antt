@@ -9,24 +9,18 @@ use lib.ListN.{length}
 use Rattle.parts.specs.Part.{Handed}
 use Rattle.labels.specs.Label.{textSize, textPart, labelOf, LabelOutcome}
 use Rattle.labels.specs.Labelled as label
-use Rattle.labels.specs.Labelled.{Unlabelled, FromSite, FromFactory}
+use Rattle.labels.specs.Labelled.{Unlabelled, FromSite, FromFactory, Means}
 use Rattle.labels.specs.Texts as text
 use Rattle.labels.specs.Texts.{FromEither}
-use Rattle.labels.specs.declared.Place.the-variants.{Nowhere, Site, Factory}
+use Rattle.labels.specs.declared.Place.{Place}
 use Rattle.demands.specs.Exactly.{Exactly}
 
 module _ (s f : List ℕ) (v : ℕ) where
-  -- no label exactly where the length of a list is wrong, or neither list has a record for the variable
-  pub label-nowhere : Exactly (labelOf s f v ≡ Nowhere) (Unlabelled s f v)
-  label-nowhere = record { wherever = label.nowhere-if s f v; only = label.nowhere-only s f v }
-
-  -- that of the site's record i exactly where both lengths are right and i is the first record for the variable there, whatever the factory's list names
-  pub label-site : (i : ℕ) → Exactly (labelOf s f v ≡ Site (textPart i)) (FromSite s f v i)
-  label-site i = record { wherever = label.site-if s f v; only = label.site-only s f v }
-
-  -- that of the factory's record i exactly where both lengths are right, the site's list has no record for it, and i is the first in the factory's
-  pub label-factory : (i : ℕ) → Exactly (labelOf s f v ≡ Factory (textPart i)) (FromFactory s f v i)
-  label-factory i = record { wherever = label.factory-if s f v; only = label.factory-only s f v }
+  -- a place exactly where what it means holds. Nowhere: the length of a list is wrong, or neither list has a record for the variable. In the site's list: both
+  -- lengths are right, and it is the text of the first record for the variable there, whatever the factory's list names. In the factory's: both lengths are
+  -- right, the site's list has no record for the variable, and it is the text of the first one in the factory's
+  pub label-place : (p : Place) → Exactly (labelOf s f v ≡ p) (Means s f v p)
+  label-place p = record { wherever = label.place-if s f v p; only = label.place-only s f v p }
 
   -- what is handed back: `bytes` by the pointer `pointer`; the lists stand at `site` and at `factory` in the caller's memory
   module _ {site factory pointer : ℕ × ℕ} {bytes : List ℕ} (o : LabelOutcome s f v site factory pointer bytes) where

@@ -1,4 +1,4 @@
--- The program's one run, as a function of the bytes of its five files.
+-- The program's one run, as a function of the bytes of the store, its target and its plan.
 -- docs/RULES.md, 7.1.
 use Prim.Native.Nat.{ℕ}
 use mathlib.Core.Bool.{cond}

@@ -3,9 +3,10 @@
 -- docs/RULES.md, 1.6 and 3.
 use Prim.Native.Nat.{ℕ, _+_, _*_, _/_, _%_, _≤_}
 use mathlib.Core.Bool.{Bool, cond, not, _||_}
-use mathlib.Core.List.{List, _∷_}
+use mathlib.Core.List.{List, [], _∷_, _++_}
+use mathlib.Core.Path.{_≡_, refl}
 use lib.Dec.{eqb, ltb}
-use lib.ListN.{length, getD}
+use lib.ListN.{length, getD, replicate}
 use Rattle.lists.specs.First.{first}
 use Rattle.parts.specs.Part.{partFrom, noPart, bytesIn, Handed}
 use Rattle.parts.specs.Part as part
@@ -63,28 +64,47 @@ labelOf s f v =
     (cond (named f v) (Factory (textPart (firstFor f v)))
     Nowhere))
 
--- of what the site's list and the factory's each have, that of the list which has the label; and the part of it: an empty one of the site's list
--- where there is no label
+-- of a thing that each of the two lists has, that of the list in which the place is; the site's where there is no label
 abbrev pub chosen : {A : Type 0} → Place → A → A → A
 chosen Nowhere site factory = site
 chosen (Site p) site factory = site
 chosen (Factory p) site factory = factory
 
-abbrev pub partAt : Place → Part
-partAt Nowhere = noPart
-partAt (Site p) = p
-partAt (Factory p) = p
+-- the part of that list; an empty one where there is no label
+abbrev pub partIn : Place → Part
+partIn Nowhere = noPart
+partIn (Site p) = p
+partIn (Factory p) = p
 
 -- what may be handed back: that part of that list, in the caller's own memory, where the two lists stand at `site` and at `factory`
 pub record LabelOutcome (s f : List ℕ) (v : ℕ) (site factory pointer : ℕ × ℕ) (bytes : List ℕ) : Type 0 where
-  pub handed : let p = labelOf s f v in Handed (partAt p) (chosen p s f) (chosen p site factory) pointer bytes
+  pub handed : let p = labelOf s f v in Handed (partIn p) (chosen p s f) (chosen p site factory) pointer bytes
 
 -- its bytes
 unfoldable pub textOf : List ℕ → List ℕ → ℕ → List ℕ
-textOf s f v = let p = labelOf s f v in bytesIn (partAt p) (chosen p s f)
+textOf s f v = let p = labelOf s f v in bytesIn (partIn p) (chosen p s f)
 
 -- the numbers of a place: which list, where in it the text begins, and its length
 abbrev pub numbers : Place → List ℕ
 numbers Nowhere = 0 ∷ part.numbers noPart
 numbers (Site p) = 1 ∷ part.numbers p
 numbers (Factory p) = 2 ∷ part.numbers p
+
+-- ---- examples: lists of records without a text
+
+of : ℕ → List ℕ
+of v = v ∷ replicate textSize 0
+
+-- the first of two records for a variable; the site's list before the factory's
+first-counts : labelOf (of 5 ++ of 7 ++ of 7) (of 7) 7 ≡ Site (textPart 1)
+unfolding first badLength names labelOf of
+first-counts = refl
+
+-- the factory's where the site's has none, and none where the site's length is wrong
+factory-next : labelOf (of 5) (of 6 ++ of 7) 7 ≡ Factory (textPart 1)
+unfolding first badLength names labelOf of
+factory-next = refl
+
+silenced : labelOf (5 ∷ []) (of 7) 7 ≡ Nowhere
+unfolding first badLength names labelOf of
+silenced = refl

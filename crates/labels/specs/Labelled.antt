@@ -7,16 +7,16 @@ use mathlib.Core.Path.{_≡_, refl, ap, sym, _∙_}
 use native.Mathlib.Omega.{arith}
 use borrow.Author.Tests.{lt-ltb, le-ltb}
 use lib.ListN.{length, getD}
-use Rattle.lists.specs.Apart.{apart}
 use Rattle.lists.specs.First.{first-passed, first-holds}
 use Rattle.lists.specs.Says.{Says, says, says-eqb, says-leb, refutes, stable, either-side}
 use Rattle.lists.specs.Truth.{by, or-cases, or-neither}
 use Rattle.parts.specs.Part.{Inside}
 use Rattle.parts.specs.Lent.{nothing-inside}
 use Rattle.parts.specs.declared.Part.{Part}
+use Rattle.labels.specs.declared.Place.{Place}
 use Rattle.labels.specs.declared.Place.the-variants.{Nowhere, Site, Factory}
 use Rattle.labels.specs.Label.{labelSize, mostLabels, badLength, labelCount, InLabels, names, textPart, firstFor, labelOf}
-use Rattle.labels.specs.Label.{chosen, partAt}
+use Rattle.labels.specs.Label.{chosen, partIn}
 
 -- ---- what the words mean
 
@@ -113,123 +113,97 @@ none-for l v h i r = refutes (names-says l v i) (first-passed (names l v) (label
 pub text-inside : (l : List ℕ) {i : ℕ} → i < labelCount l → Inside (textPart i) l
 text-inside l h = record { begins = omega arith; ends = omega arith }
 
-same-part : {i j : ℕ} → textPart i ≡ textPart j → i ≡ j
-same-part e = omega (arith, ap (λ (p : Part). p .0) e)
-
 -- only one record is the first
 first-one : {l : List ℕ} {v i j : ℕ} → FirstFor l v i → FirstFor l v j → i ≡ j
 first-one {i = i} {j = j} p q =
     either-side i j (λ h. absurd (q .before i h (p .itself))) (λ h. either-side j i (λ k. absurd (p .before j k (q .itself))) (λ k. omega arith))
 
--- ---- each case
+-- ---- each place
 
-pub data Labelled (s f : List ℕ) (v : ℕ) : Type 0 where
-  nowhere : Unlabelled s f v → labelOf s f v ≡ Nowhere → Labelled s f v
-  site : {i : ℕ} → FromSite s f v i → labelOf s f v ≡ Site (textPart i) → Labelled s f v
-  factory : {i : ℕ} → FromFactory s f v i → labelOf s f v ≡ Factory (textPart i) → Labelled s f v
+-- what it means: why there is no label, or which record of which list has it
+abbrev pub Means : List ℕ → List ℕ → ℕ → Place → Type 0
+Means s f v Nowhere = Unlabelled s f v
+Means s f v (Site p) = (i : ℕ) × (FromSite s f v i × (p ≡ textPart i))
+Means s f v (Factory p) = (i : ℕ) × (FromFactory s f v i × (p ≡ textPart i))
 
 module _ (s f : List ℕ) (v : ℕ) where
-  pub labelled : Labelled s f v
-  labelled = ⊎-elim wrong right (by (badLength s || badLength f))
-    where
-      wrong : (badLength s || badLength f) ≡ true → Labelled s f v
-      wrong e =
-          nowhere
-          (⊎-elim (λ h. site-wrong (wrong-length s h)) (λ h. factory-wrong (wrong-length f h)) (or-cases (badLength s) (badLength f) e))
-          (sym (wrong-label s f v refl refl e))
+  told : {p : Place} → p ≡ labelOf s f v → Means s f v p → Means s f v (labelOf s f v)
+  told e m = rw (← e) m
 
-      right : (badLength s || badLength f) ≡ false → Labelled s f v
+  pub means : Means s f v (labelOf s f v)
+  means = ⊎-elim wrong right (by (badLength s || badLength f))
+    where
+      wrong : (badLength s || badLength f) ≡ true → Means s f v (labelOf s f v)
+      wrong e =
+          told (wrong-label s f v refl refl e)
+          (⊎-elim (λ h. site-wrong (wrong-length s h)) (λ h. factory-wrong (wrong-length f h)) (or-cases (badLength s) (badLength f) e))
+
+      right : (badLength s || badLength f) ≡ false → Means s f v (labelOf s f v)
       right e =
           let (p, q) = or-neither (badLength s) (badLength f) e in
           let lengths : RightLength s × RightLength f = (right-length s p, right-length f q) in
           either-side (firstFor s v) (labelCount s)
-          (λ h. site (record { right = lengths; first = first-for s v h }) (sym (site-label s f v refl refl e refl refl refl h)))
+          (λ h. told (site-label s f v refl refl e refl refl refl h) (firstFor s v, (record { right = lengths; first = first-for s v h }, refl)))
           (λ h.
           either-side (firstFor f v) (labelCount f)
           (λ k.
-          factory (record { right = lengths; unnamed = none-for s v h; first = first-for f v k })
-          (sym (factory-label s f v refl refl e refl refl refl refl h refl k)))
-          (λ k. nowhere (neither (none-for s v h) (none-for f v k)) (sym (no-label s f v refl refl e refl refl refl refl h k))))
+          told (factory-label s f v refl refl e refl refl refl refl h refl k)
+          (firstFor f v, (record { right = lengths; unnamed = none-for s v h; first = first-for f v k }, refl)))
+          (λ k. told (no-label s f v refl refl e refl refl refl refl h k) (neither (none-for s v h) (none-for f v k))))
 
-  -- no two of them
+  -- ---- no two places mean what holds
+
+  -- right lengths and a record for the variable in one of the lists
+  not-un : RightLength s × RightLength f → (Unnamed s v → Unnamed f v → ⊥) → Unlabelled s f v → ⊥
+  not-un r n (site-wrong h) = h (r .0)
+  not-un r n (factory-wrong h) = h (r .1)
+  not-un r n (neither h k) = n h k
+
   not-site : {i : ℕ} → FromSite s f v i → Unlabelled s f v → ⊥
-  not-site w (site-wrong h) = h (w .right .0)
-  not-site w (factory-wrong h) = h (w .right .1)
-  not-site w (neither h k) = h _ (w .first .itself)
+  not-site w = not-un (w .right) (λ h k. h _ (w .first .itself))
 
   not-factory : {i : ℕ} → FromFactory s f v i → Unlabelled s f v → ⊥
-  not-factory w (site-wrong h) = h (w .right .0)
-  not-factory w (factory-wrong h) = h (w .right .1)
-  not-factory w (neither h k) = k _ (w .first .itself)
+  not-factory w = not-un (w .right) (λ h k. k _ (w .first .itself))
 
   not-both : {i j : ℕ} → FromSite s f v i → FromFactory s f v j → ⊥
   not-both w u = u .unnamed _ (w .first .itself)
 
-  -- ---- nowhere exactly where there is none; else in the site's list exactly where that has a record; else in the factory's; each time the first
+  one-part : {l : List ℕ} {i j : ℕ} {p q : Part} → FirstFor l v i → FirstFor l v j → p ≡ textPart i → q ≡ textPart j → p ≡ q
+  one-part a b e g = e ∙ ap textPart (first-one a b) ∙ sym g
 
-  pub nowhere-if : Unlabelled s f v → labelOf s f v ≡ Nowhere
-  nowhere-if u = go labelled
-    where
-      go : Labelled s f v → labelOf s f v ≡ Nowhere
-      go (nowhere w e) = e
-      go (site w e) = absurd (not-site w u)
-      go (factory w e) = absurd (not-factory w u)
+  one-place : (p q : Place) → Means s f v p → Means s f v q → p ≡ q
+  one-place Nowhere Nowhere m w = refl
+  one-place Nowhere (Site q) m (j, (w, g)) = absurd (not-site w m)
+  one-place Nowhere (Factory q) m (j, (w, g)) = absurd (not-factory w m)
+  one-place (Site p) Nowhere (i, (u, e)) w = absurd (not-site u w)
+  one-place (Site p) (Site q) (i, (u, e)) (j, (w, g)) = ap Site (one-part (u .first) (w .first) e g)
+  one-place (Site p) (Factory q) (i, (u, e)) (j, (w, g)) = absurd (not-both u w)
+  one-place (Factory p) Nowhere (i, (u, e)) w = absurd (not-factory u w)
+  one-place (Factory p) (Site q) (i, (u, e)) (j, (w, g)) = absurd (not-both w u)
+  one-place (Factory p) (Factory q) (i, (u, e)) (j, (w, g)) = ap Factory (one-part (u .first) (w .first) e g)
 
-  pub nowhere-only : labelOf s f v ≡ Nowhere → Unlabelled s f v
-  nowhere-only q = go labelled
-    where
-      go : Labelled s f v → Unlabelled s f v
-      go (nowhere w e) = w
-      go (site w e) = apart (cc)
-      go (factory w e) = apart (cc)
+  -- ---- so the label's place is the one that means what holds, and no other
 
-  pub site-if : {i : ℕ} → FromSite s f v i → labelOf s f v ≡ Site (textPart i)
-  site-if {i} u = go labelled
-    where
-      go : Labelled s f v → labelOf s f v ≡ Site (textPart i)
-      go (nowhere w e) = absurd (not-site u w)
-      go (site w e) = e ∙ ap (λ j. Site (textPart j)) (first-one (w .first) (u .first))
-      go (factory w e) = absurd (not-both u w)
+  pub place-if : (p : Place) → Means s f v p → labelOf s f v ≡ p
+  place-if p m = one-place (labelOf s f v) p means m
 
-  pub site-only : {i : ℕ} → labelOf s f v ≡ Site (textPart i) → FromSite s f v i
-  site-only {i} q = go labelled
-    where
-      go : Labelled s f v → FromSite s f v i
-      go (nowhere w e) = apart (cc)
-      go (site {i = j} w e) = let z : textPart j ≡ textPart i = cc in rw (same-part z) at w
-      go (factory w e) = apart (cc)
+  pub place-only : (p : Place) → labelOf s f v ≡ p → Means s f v p
+  place-only p e = rw e at means
 
-  pub factory-if : {i : ℕ} → FromFactory s f v i → labelOf s f v ≡ Factory (textPart i)
-  factory-if {i} u = go labelled
-    where
-      go : Labelled s f v → labelOf s f v ≡ Factory (textPart i)
-      go (nowhere w e) = absurd (not-factory u w)
-      go (site w e) = absurd (not-both w u)
-      go (factory w e) = e ∙ ap (λ j. Factory (textPart j)) (first-one (w .first) (u .first))
+  -- ---- where the text stands: in the list that has the label, and in the longest one
 
-  pub factory-only : {i : ℕ} → labelOf s f v ≡ Factory (textPart i) → FromFactory s f v i
-  factory-only {i} q = go labelled
-    where
-      go : Labelled s f v → FromFactory s f v i
-      go (nowhere w e) = apart (cc)
-      go (site w e) = apart (cc)
-      go (factory {i = j} w e) = let z : textPart j ≡ textPart i = cc in rw (same-part z) at w
+  means-inside : (p : Place) → Means s f v p → Inside (partIn p) (chosen p s f)
+  means-inside Nowhere m = nothing-inside
+  means-inside (Site p) (i, (w, e)) = rw e (text-inside s (w .first .itself .inside))
+  means-inside (Factory p) (i, (w, e)) = rw e (text-inside f (w .first .itself .inside))
 
-  -- ---- where the text stands
+  pub place-inside : Inside (partIn (labelOf s f v)) (chosen (labelOf s f v) s f)
+  place-inside = means-inside (labelOf s f v) means
 
-  -- in every case the part lies in the list that has it, and in the longest one
-  pub place-inside : Inside (partAt (labelOf s f v)) (chosen (labelOf s f v) s f)
-  place-inside = go labelled
-    where
-      go : Labelled s f v → Inside (partAt (labelOf s f v)) (chosen (labelOf s f v) s f)
-      go (nowhere w e) = rw e nothing-inside
-      go (site w e) = rw e (text-inside s (w .first .itself .inside))
-      go (factory w e) = rw e (text-inside f (w .first .itself .inside))
+  means-small : (p : Place) → Means s f v p → partIn p .1 ≤ labelSize * mostLabels
+  means-small Nowhere m = omega arith
+  means-small (Site p) (i, (w, e)) = rw e (omega (arith, w .first .itself .inside, w .right .0 .few))
+  means-small (Factory p) (i, (w, e)) = rw e (omega (arith, w .first .itself .inside, w .right .1 .few))
 
-  pub place-small : partAt (labelOf s f v) .1 ≤ labelSize * mostLabels
-  place-small = go labelled
-    where
-      go : Labelled s f v → partAt (labelOf s f v) .1 ≤ labelSize * mostLabels
-      go (nowhere w e) = rw e (omega arith)
-      go (site w e) = rw e (omega (arith, w .first .itself .inside, w .right .0 .few))
-      go (factory w e) = rw e (omega (arith, w .first .itself .inside, w .right .1 .few))
+  pub place-small : partIn (labelOf s f v) .1 ≤ labelSize * mostLabels
+  place-small = means-small (labelOf s f v) means

@@ -31,7 +31,11 @@ labelLine text = beforeZero text ++ bytes "\n"
 unfoldable pub labelText : (ℕ → List ℕ) → List ℕ → ℕ → List ℕ
 labelText label t i = let text = label (variableAt t i) in cond (isFree t i || eqb (length text) 0) [] (labelLine text)
 
--- a text that begins with a zero has a line, an empty one
+-- no line after a free record, though 255 has a label; an empty line for a text that begins with a zero
+no-line : labelText (λ v. 53 ∷ 50 ∷ []) (255 ∷ []) 0 ≡ []
+unfolding labelText
+no-line = refl
+
 empty-line : labelText (λ v. 0 ∷ 53 ∷ 50 ∷ []) (7 ∷ []) 0 ≡ bytes "\n"
 unfolding first beforeZero labelLine labelText
 empty-line = refl

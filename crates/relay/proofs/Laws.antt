@@ -20,7 +20,7 @@ use Rattle.reading.specs.Read.{ReadOutcome}
 use Rattle.showing.specs.Show.{partOf}
 use Rattle.showing.specs.Parts.{part-inside, part-small}
 use Rattle.reading.specs.Theorems.{read-place-small}
-use Rattle.labels.specs.Label.{labelOf, partAt}
+use Rattle.labels.specs.Label.{labelOf, partIn}
 use Rattle.labels.specs.Labelled.{place-inside, place-small}
 use Rattle.labels.specs.declared.Place.{Place}
 use Rattle.reading.specs.declared.ReadAnswer.{ReadAnswer}
@@ -70,7 +70,7 @@ module _ (t r o : List ℕ) where
 
 -- ---- a label
 
-pub place-fits : (s f : List ℕ) (v : ℕ) {place : Place} → place ≡ labelOf s f v → Small (partAt place)
+pub place-fits : (s f : List ℕ) (v : ℕ) {place : Place} → place ≡ labelOf s f v → Small (partIn place)
 place-fits s f v is = rw is (small (place-inside s f v) (place-small s f v) (omega arith))
 
 -- ---- a count

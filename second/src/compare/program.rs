@@ -20,7 +20,7 @@ use crate::sample::sample;
 use crate::tally::Tally;
 use crate::texts;
 
-pub const QUESTIONS: u64 = 2_000;
+pub const QUESTIONS: u64 = 4_000;
 const FIRST_SEED: u64 = 20_700_000;
 /// The most bytes that each of the files may have.
 const LIMITS: [usize; 7] = [32_768, 128, 32, 32, 1, 1_024, 1_024];
@@ -40,7 +40,7 @@ pub fn hold_program_to_cases(program: &Path) -> Result<usize, String> {
 pub fn compare(program: &Path, count: u64) -> Result<Tally, String> {
     let program = whole_path(program)?;
     let folder = Folder::new()?;
-    let tally = Tally::new("random runs of the program", 1_000)
+    let tally = Tally::new("random runs of the program", 2_000)
         .line("done", 100)
         .line("no room", 100)
         .line("no room after some swaps", 20)
@@ -225,7 +225,30 @@ impl Drop for Folder {
     }
 }
 
+/// In every other folder all files are good, so that the run has something to
+/// list with labels; in the others any of them may be bad.
 fn random_files(random: &mut Random) -> Files {
+    if random.coin() {
+        good_files(random)
+    } else {
+        any_files(random)
+    }
+}
+
+fn good_files(random: &mut Random) -> Files {
+    let input = match random.below(4) {
+        0 => accepted(random).0,
+        _ => busy(random),
+    };
+    let mut target = input.order.clone();
+    random.shuffle(&mut target);
+    let plan = vec![random.below(PLANS.len()) as u8];
+    let [site, factory] = program_labels::good_files(&program_labels::variables(&input), random);
+    let [table, roots, order] = [input.table, input.roots, input.order].map(Some);
+    [table, roots, order, Some(target), Some(plan), site, factory]
+}
+
+fn any_files(random: &mut Random) -> Files {
     let input = match random.below(10) {
         0..=3 => busy(random),
         4 => accepted(random).0,
@@ -244,7 +267,7 @@ fn random_files(random: &mut Random) -> Files {
         files[ROOTS].get_or_insert_default().push(0);
     }
     let [table, roots, order, target, plan] = files;
-    let [site, factory] = program_labels::random_files(&variables, random);
+    let [site, factory] = program_labels::any_files(&variables, random);
     [table, roots, order, target, plan, site, factory]
 }
 

@@ -10,13 +10,12 @@ use crate::printed::{Files, Run, FACTORY, NAMES, SITE, TABLE};
 use crate::random::Random;
 use crate::tally::Tally;
 
-/// A tally with the lines for labels more. Half of the folders must have some
-/// for their store.
+/// A tally with the lines for labels more. In half of the folders a label must be
+/// printed.
 pub fn lines(tally: Tally, folders: u64) -> Tally {
     let tally = tally
-        .line(FOR_THE_STORE, folders as usize / 2)
+        .line("a label printed", folders as usize / 2)
         .line("refused, with labels for the store", 100)
-        .line("a label printed", 400)
         .line("a label printed with every used record", 100)
         .line("a label printed with some used records", 100)
         .line("a label printed, another of the factory", 100)
@@ -33,8 +32,6 @@ pub fn lines(tally: Tally, folders: u64) -> Tally {
     })
 }
 
-const FOR_THE_STORE: &str = "labels for a variable of the store";
-
 /// What is counted of each of the two files.
 const OF_PARTS: &str = "of no whole records";
 const ALONE: &str = "alone, a label printed";
@@ -45,16 +42,15 @@ fn of_file(place: usize, what: &str) -> String {
 }
 
 pub fn count(run: &Run, files: &Files, tally: &mut Tally) {
-    let for_the_store = of_table(files)
-        .iter()
-        .any(|&used| run.label(used).is_some());
-    tally.count_if(for_the_store, FOR_THE_STORE);
     for place in [SITE, FACTORY] {
         let of_parts = !list(files, place).len().is_multiple_of(LABEL_BYTES);
         tally.count_if(of_parts, &of_file(place, OF_PARTS));
     }
     if let Answer::Refused(_) = run.answer {
-        tally.count_if(for_the_store, "refused, with labels for the store");
+        let labelled = of_table(files)
+            .iter()
+            .any(|&used| run.label(used).is_some());
+        tally.count_if(labelled, "refused, with labels for the store");
         return;
     }
     count_printed(run, files, tally);
@@ -132,10 +128,14 @@ pub fn variables(input: &Input) -> Vec<u8> {
     used.map(|(_, record)| record.variable.0).collect()
 }
 
-/// The site's file and the factory's, for a store that has these variables. One
-/// of them may have a bad length.
-pub fn random_files(variables: &[u8], random: &mut Random) -> [Option<Vec<u8>>; 2] {
-    let mut files = [(); 2].map(|()| random_file(variables, random));
+/// The site's file and the factory's, for a store that has these variables.
+pub fn good_files(variables: &[u8], random: &mut Random) -> [Option<Vec<u8>>; 2] {
+    [(); 2].map(|()| random_file(variables, random))
+}
+
+/// One of them may have a bad length.
+pub fn any_files(variables: &[u8], random: &mut Random) -> [Option<Vec<u8>>; 2] {
+    let mut files = good_files(variables, random);
     if random.once_in(6) {
         let file = &mut files[random.below(2)];
         spoil_length(file.get_or_insert_default(), random);
