@@ -100,11 +100,16 @@ first-counts : labelOf (of 5 ++ of 7 ++ of 7) (of 7) 7 ≡ Site (textPart 1)
 unfolding first badLength names labelOf of
 first-counts = refl
 
--- the factory's where the site's has none, and none where the site's length is wrong
+-- the factory's where the site's has none
 factory-next : labelOf (of 5) (of 6 ++ of 7) 7 ≡ Factory (textPart 1)
 unfolding first badLength names labelOf of
 factory-next = refl
 
-silenced : labelOf (5 ∷ []) (of 7) 7 ≡ Nowhere
+-- none where the length of a list is wrong, though the other names the variable
+site-silences : labelOf (5 ∷ []) (of 7) 7 ≡ Nowhere
 unfolding first badLength names labelOf of
-silenced = refl
+site-silences = refl
+
+factory-silences : labelOf (of 7) (5 ∷ []) 7 ≡ Nowhere
+unfolding first badLength names labelOf of
+factory-silences = refl
