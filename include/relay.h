@@ -137,8 +137,8 @@ size_t relay_count(const uint8_t *table, size_t table_length,
                    double *share, size_t share_length,
                    uint32_t *answer, size_t answer_length);
 
-/* The label of a variable, any number: which part of `site` or of `factory` is its text. The first record for the variable in
- * `site` counts, else the first in `factory`. Changes no buffer but `answer`.
+/* The label of a variable, any number: which part of `site` or of `factory` is its text. It is that of the first record for the
+ * variable in `site`, or else of the first in `factory`. Changes no buffer but `answer`.
  *   site:    RELAY_SITE_LABEL, the offset of the text's first byte in `site`, RELAY_TEXT_SIZE
  *   factory: RELAY_FACTORY_LABEL, the offset of the text's first byte in `factory`, RELAY_TEXT_SIZE
  *   none:    RELAY_NO_LABEL, 0, 0 (neither list names the variable; or a list, whichever, has a length that is no multiple

@@ -204,8 +204,6 @@ static void label_answers(void)
     expect("RELAY_MOST_LABELS of the factory", label(0, RELAY_MOST_LABELS, RELAY_MOST_LABELS - 1), RELAY_FACTORY_LABEL);
     expect("RELAY_MOST_LABELS and one, of the site", label(RELAY_MOST_LABELS + 1, 1, 0), RELAY_NO_LABEL);
     expect("RELAY_MOST_LABELS and one, of the factory", label(1, RELAY_MOST_LABELS + 1, 0), RELAY_NO_LABEL);
-    /* No call tells the version: the one that has relay_label is 5. */
-    expect("RELAY_VERSION", 5, RELAY_VERSION);
 }
 
 /* Each limit is taken, and one more is refusal 1. */
