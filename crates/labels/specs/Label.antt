@@ -90,26 +90,27 @@ numbers Nowhere = 0 ∷ part.numbers noPart
 numbers (Site p) = 1 ∷ part.numbers p
 numbers (Factory p) = 2 ∷ part.numbers p
 
--- ---- examples: lists of records without a text
+-- ---- examples
 
-of : ℕ → List ℕ
-of v = v ∷ replicate textSize 0
+-- a record for a variable, with an empty text
+blank : ℕ → List ℕ
+blank v = v ∷ replicate textSize 0
 
 -- the first of two records for a variable; the site's list before the factory's
-first-counts : labelOf (of 5 ++ of 7 ++ of 7) (of 7) 7 ≡ Site (textPart 1)
-unfolding first badLength names labelOf of
+first-counts : labelOf (blank 5 ++ blank 7 ++ blank 7) (blank 7) 7 ≡ Site (textPart 1)
+unfolding first badLength names labelOf blank
 first-counts = refl
 
 -- the factory's where the site's has none
-factory-next : labelOf (of 5) (of 6 ++ of 7) 7 ≡ Factory (textPart 1)
-unfolding first badLength names labelOf of
+factory-next : labelOf (blank 5) (blank 6 ++ blank 7) 7 ≡ Factory (textPart 1)
+unfolding first badLength names labelOf blank
 factory-next = refl
 
 -- none where the length of a list is wrong, though the other names the variable
-site-silences : labelOf (5 ∷ []) (of 7) 7 ≡ Nowhere
-unfolding first badLength names labelOf of
+site-silences : labelOf (5 ∷ []) (blank 7) 7 ≡ Nowhere
+unfolding first badLength names labelOf blank
 site-silences = refl
 
-factory-silences : labelOf (of 7) (5 ∷ []) 7 ≡ Nowhere
-unfolding first badLength names labelOf of
+factory-silences : labelOf (blank 7) (5 ∷ []) 7 ≡ Nowhere
+unfolding first badLength names labelOf blank
 factory-silences = refl

@@ -154,16 +154,16 @@ module _ (s f : List ℕ) (v : ℕ) where
   -- ---- no two places mean what holds
 
   -- right lengths and a record for the variable in one of the lists
-  not-un : RightLength s × RightLength f → (Unnamed s v → Unnamed f v → ⊥) → Unlabelled s f v → ⊥
-  not-un r n (site-wrong h) = h (r .0)
-  not-un r n (factory-wrong h) = h (r .1)
-  not-un r n (neither h k) = n h k
+  not-unlabelled : RightLength s × RightLength f → (Unnamed s v → Unnamed f v → ⊥) → Unlabelled s f v → ⊥
+  not-unlabelled r n (site-wrong h) = h (r .0)
+  not-unlabelled r n (factory-wrong h) = h (r .1)
+  not-unlabelled r n (neither h k) = n h k
 
   not-site : {i : ℕ} → FromSite s f v i → Unlabelled s f v → ⊥
-  not-site w = not-un (w .right) (λ h k. h _ (w .first .itself))
+  not-site w = not-unlabelled (w .right) (λ h k. h _ (w .first .itself))
 
   not-factory : {i : ℕ} → FromFactory s f v i → Unlabelled s f v → ⊥
-  not-factory w = not-un (w .right) (λ h k. k _ (w .first .itself))
+  not-factory w = not-unlabelled (w .right) (λ h k. k _ (w .first .itself))
 
   not-both : {i j : ℕ} → FromSite s f v i → FromFactory s f v j → ⊥
   not-both w u = u .unnamed _ (w .first .itself)

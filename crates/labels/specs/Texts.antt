@@ -6,7 +6,7 @@ use mathlib.Core.Path.{_≡_, refl, ap, _∙_}
 use native.Mathlib.Omega.{arith}
 use lib.ListN.{length}
 use Rattle.parts.specs.Part.{bytesIn, Handed}
-use Rattle.parts.specs.Lent.{long, Lent, handed-lent, handed-one}
+use Rattle.parts.specs.Lent.{bytes-long, Lent, handed-lent, handed-one}
 use Rattle.labels.specs.declared.Place.{Place}
 use Rattle.labels.specs.declared.Place.the-variants.{Nowhere, Site, Factory}
 use Rattle.labels.specs.Label.{textSize, textPart, labelOf, chosen, partIn, LabelOutcome, textOf}
@@ -15,7 +15,7 @@ use Rattle.labels.specs.Labelled.{FirstFor, Unlabelled, FromSite, FromFa
 -- ---- the text of a variable's label: empty exactly where it has none, else whole
 
 text-long : (l : List ℕ) {v i : ℕ} → FirstFor l v i → length (bytesIn (textPart i) l) ≡ textSize
-text-long l w = long (text-inside l (w .itself .inside)) ∙ omega arith
+text-long l w = bytes-long (text-inside l (w .itself .inside)) ∙ omega arith
 
 module _ (s f : List ℕ) (v : ℕ) where
   text-cases : Unlabelled s f v ⊎ (length (textOf s f v) ≡ textSize)

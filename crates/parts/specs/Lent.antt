@@ -12,8 +12,8 @@ use Rattle.parts.specs.Part.{Inside, bytesIn, noPart, Handed}
 pub nothing-inside : {l : List ℕ} → Inside noPart l
 nothing-inside = record { begins = omega arith; ends = omega arith }
 
-pub long : {p : Part} {l : List ℕ} → Inside p l → length (bytesIn p l) ≡ p .1 - p .0
-long {p} {l} h = length-take-le (p .1 - p .0) (drop (p .0) l) (simp length-drop (omega (arith, h .begins, h .ends)))
+pub bytes-long : {p : Part} {l : List ℕ} → Inside p l → length (bytesIn p l) ≡ p .1 - p .0
+bytes-long {p} {l} h = length-take-le (p .1 - p .0) (drop (p .0) l) (simp length-drop (omega (arith, h .begins, h .ends)))
 
 -- bytes of a list in the caller's memory, handed back where they stand: by a pointer into the list's block, moved by an offset; none of them or
 -- `size`, and all inside the list
@@ -26,7 +26,7 @@ pub record Lent (l : List ℕ) (list pointer : ℕ × ℕ) (offset size : ℕ) (
 module _ {p : Part} {l : List ℕ} {list : ℕ × ℕ} where
   module _ {pointer : ℕ × ℕ} {bytes : List ℕ} (inside : Inside p l) (s : Handed p l list pointer bytes) where
     pub handed-long : length bytes ≡ p .1 - p .0
-    handed-long = ap length (s .the-bytes) ∙ long inside
+    handed-long = ap length (s .the-bytes) ∙ bytes-long inside
 
     pub handed-lent : {size : ℕ} → (length bytes ≡ 0) ⊎ (length bytes ≡ size) → Lent l list pointer (p .0) size bytes
     handed-lent h = record {

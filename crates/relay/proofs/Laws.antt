@@ -2,7 +2,7 @@
 use Prim.Native.Nat.{ℕ, _≤_, _<_}
 use mathlib.Core.Bool.{Bool, true, false, _||_}
 use mathlib.Core.List.{List, [], _∷_}
-use mathlib.Core.Path.{_≡_, ap, sym, _∙_}
+use mathlib.Core.Path.{_≡_, sym, _∙_}
 use native.Mathlib.Omega.{arith}
 use borrow.Author.Needs.{needs}
 use borrow.Author.Tests.{lt-ltb, le-ltb, ltb-false}
@@ -36,20 +36,16 @@ use Rattle.slices.specs.OneSwap.{plainSwap}
 use Rattle.slices.specs.Run as run
 use Rattle.slices.specs.Run.{RunOutcome}
 use Rattle.slices.specs.declared.RunAnswer.{RunAnswer}
-use Rattle.relay_numbers.specs.Written.{Written, wrote, written, told}
+use Rattle.relay_numbers.specs.Written.{Written, wrote, written, told, tells-it}
 use Rattle.relay_parts.specs.Small.{Small, small}
 use Rattle.relay.specs.Told.{toldCount, toldSwap, toldRun, CountTold, SwapTold, RunTold}
 use Rattle.relay_numbers.specs.Fits.{limit, Fits, swap-fits, run-fits}
 
--- ---- what a call tells: the numbers of its answer are written
+-- ---- what a call tells: the numbers of its answer are written, also of an answer b that was taken apart
 
-module _ {A : Type 0} (numbers : A → List ℕ) (list : List ℕ) {w : Written} {a c : A} where
-  pub tells-it : w ≡ written list (numbers a) → a ≡ c → w ≡ written list (numbers c)
-  tells-it e p = e ∙ ap (λ z. written list (numbers z)) p
-
-  -- an answer b that was taken apart
-  pub tells : {b : A} → w ≡ written list (numbers a) → b ≡ c → b ≡ a → w ≡ written list (numbers c)
-  tells e p q = tells-it e (sym q ∙ p)
+pub tells : {A : Type 0} (numbers : A → List ℕ) (list : List ℕ) {w : Written} {a b c : A} → w ≡ written list (numbers a) → b ≡ c → b ≡ a
+    → w ≡ written list (numbers c)
+tells numbers list e p q = tells-it numbers list e (sym q ∙ p)
 
 -- ---- the numbers of Check, Read and Show
 

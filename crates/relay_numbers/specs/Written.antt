@@ -2,7 +2,7 @@
 use Prim.Native.Nat.{ℕ}
 use mathlib.Core.Bool.{cond}
 use mathlib.Core.List.{List, _++_}
-use mathlib.Core.Path.{_≡_}
+use mathlib.Core.Path.{_≡_, ap, _∙_}
 use lib.Dec.{ltb}
 use lib.ListN.{length, drop}
 
@@ -19,10 +19,13 @@ written list numbers =
     (wrote 0 list)
     (wrote (length numbers) (numbers ++ drop (length numbers) list))
 
--- an answer that was taken apart is told by its numbers
-pub tells-apart : {A : Type 0} (numbers : A → List ℕ) (list : List ℕ) {w : Written} {a b : A} → a ≡ b → w ≡ written list (numbers b)
-    → w ≡ written list (numbers a)
-tells-apart numbers list p e = rw p e
+-- the numbers of an answer are told where those of one that equals it are; or, the other way round, of one that was taken apart
+module _ {A : Type 0} (numbers : A → List ℕ) (list : List ℕ) {w : Written} {a b : A} where
+  pub tells-it : w ≡ written list (numbers a) → a ≡ b → w ≡ written list (numbers b)
+  tells-it e p = e ∙ ap (λ z. written list (numbers z)) p
+
+  pub tells-apart : a ≡ b → w ≡ written list (numbers b) → w ≡ written list (numbers a)
+  tells-apart p e = rw p e
 
 -- ---- a call that may change a table and an order: only where its whole answer fits the lent list
 

@@ -1,6 +1,7 @@
 use borrow.Author.Needs.{needs}
 use Rattle.labels.specs.Label.{numbers}
-use Rattle.relay.proofs.Laws.{tells-it, place-fits}
+use Rattle.relay_numbers.specs.Written.{tells-it}
+use Rattle.relay.proofs.Laws.{place-fits}
 use Rattle.relay.proofs.relay_label.Statement.{statement}
 use Rattle.relay.proofs.relay_label.Tie as tie
 

@@ -1,6 +1,7 @@
 use borrow.Author.Needs.{needs}
 use Rattle.parts.specs.Part.{numbers}
-use Rattle.relay.proofs.Laws.{tells-it, part-fits}
+use Rattle.relay_numbers.specs.Written.{tells-it}
+use Rattle.relay.proofs.Laws.{part-fits}
 use Rattle.relay.proofs.relay_show.Statement.{statement}
 use Rattle.relay.proofs.relay_show.Tie as tie
 
