@@ -4,6 +4,11 @@ const RELAY_BRING_UP: u32 = 0;
 const RELAY_DONE: u32 = 0;
 const RELAY_NO_ROOM: u32 = 100;
 const RELAY_PAUSED: u32 = 101;
+const RELAY_LOG_SHORT: u32 = 102;
+const RELAY_LOG_RECORD_SIZE: usize = 16;
+
+/// Three records change in this swap, and the pair of levels: four entries and the seal.
+const LOG_RECORDS: usize = 5;
 
 #[link(name = "relay", kind = "static")]
 extern "C" {
@@ -16,6 +21,8 @@ extern "C" {
         order_length: usize,
         target: *const u8,
         target_length: usize,
+        log: *mut u8,
+        log_length: usize,
         plan: u32,
         budget: u32,
         answer: *mut u32,
@@ -29,6 +36,7 @@ fn run<'a>(
     roots: &[u8],
     order: &mut [u8],
     target: &[u8],
+    log: &mut [u8],
     plan: u32,
     budget: u32,
     answer: &'a mut [u32; RELAY_RUN_NUMBERS],
@@ -44,6 +52,8 @@ fn run<'a>(
             order.len(),
             target.as_ptr(),
             target.len(),
+            log.as_mut_ptr(),
+            log.len(),
             plan,
             budget,
             answer.as_mut_ptr(),
@@ -61,12 +71,14 @@ fn main() {
     let roots = [3, 0];
     let mut order = [0, 1];
     let target = [1, 0];
+    let mut log = [0; LOG_RECORDS * RELAY_LOG_RECORD_SIZE];
     loop {
         match *run(
             &mut table,
             &roots,
             &mut order,
             &target,
+            &mut log,
             RELAY_BRING_UP,
             8,
             &mut [0; RELAY_RUN_NUMBERS],
@@ -75,6 +87,9 @@ fn main() {
             [RELAY_DONE, ..] => println!("order {} {}", order[0], order[1]),
             [RELAY_NO_ROOM, _, _, level, needed, free] => {
                 println!("no room at level {level}: needed {needed}, free {free}")
+            }
+            [RELAY_LOG_SHORT, _, _, level, needed, held] => {
+                println!("log short at level {level}: needed {needed}, held {held}")
             }
             [number, place] => println!("refused {number} place {place}"),
             _ => unreachable!("no other answer has numbers"),

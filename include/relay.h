@@ -6,6 +6,8 @@
  *   roots   up to RELAY_MOST_ROOTS references of RELAY_ROOT_SIZE bytes, one for each output.
  *   order   n bytes, n from 1 to RELAY_MOST_VARIABLES: byte k is the variable at level k; level 0 is the top.
  *   target  n bytes, the order that a run goes towards.
+ *   log     the undo log, from 1 to RELAY_MOST_LOG_RECORDS records of RELAY_LOG_RECORD_SIZE bytes. The last one is the seal; its byte 0 is
+ *           RELAY_SEALED while a swap is being made, and 0 otherwise. A log whose bytes are all 0 is empty.
  *   site,   lists of labels, the site's own and the factory's: up to RELAY_MOST_LABELS records of RELAY_LABEL_SIZE bytes, of which
  *   factory byte 0 is the variable and the other RELAY_TEXT_SIZE its text, with zeros behind it.
  * A reference is RELAY_FALSE, RELAY_TRUE, or RELAY_FIRST_RECORD + i for record i. A record takes its low reference where its
@@ -25,7 +27,7 @@
 #include <stddef.h>
 #include <stdint.h>
 
-#define RELAY_VERSION 5u
+#define RELAY_VERSION 6u
 
 /* Sizes and limits. */
 #define RELAY_RECORD_SIZE 8u
@@ -36,6 +38,11 @@
 #define RELAY_LABEL_SIZE 16u
 #define RELAY_TEXT_SIZE 15u
 #define RELAY_MOST_LABELS 64u
+#define RELAY_LOG_RECORD_SIZE 16u
+#define RELAY_MOST_LOG_RECORDS 4096u
+
+/* Byte 0 of the log's seal while a swap is being made. */
+#define RELAY_SEALED 165u
 
 /* The variable of a free record; the references of the constants and of record 0. */
 #define RELAY_FREE 255u
@@ -56,8 +63,10 @@
 #define RELAY_COUNTED 0u  /* Count */
 #define RELAY_MADE 0u     /* Swap */
 #define RELAY_DONE 0u     /* Run */
+#define RELAY_PUT_BACK 0u /* Recover */
 #define RELAY_NO_ROOM 100u
 #define RELAY_PAUSED 101u
+#define RELAY_LOG_SHORT 102u
 
 #define RELAY_REFUSED_SIZES 1u     /* wrong sizes; place 0 */
 #define RELAY_REFUSED_ORDER 2u     /* the order isn't a permutation; its first wrong position */
@@ -72,6 +81,8 @@
 #define RELAY_REFUSED_INPUTS 11u   /* not n inputs, or one not 0 or 1; place 0 */
 #define RELAY_REFUSED_LEVEL 12u    /* no such level; the level asked for */
 #define RELAY_REFUSED_PLAN 13u     /* no such plan; the number given */
+#define RELAY_REFUSED_LOG 14u      /* a log that no cut leaves: its length, place 0; its seal, the seal's record; the lowest wrong entry */
+#define RELAY_REFUSED_SEALED 15u   /* a swap was cut, and nothing recovered it; place 0 */
 
 /* The first number of a label's answer: which list it is a part of. */
 #define RELAY_NO_LABEL 0u
@@ -86,6 +97,7 @@
 #define RELAY_LABEL_NUMBERS 3u
 #define RELAY_SWAP_NUMBERS 4u
 #define RELAY_RUN_NUMBERS 6u
+#define RELAY_RECOVER_NUMBERS 2u
 #define RELAY_MOST_NUMBERS 6u
 
 #ifdef __cplusplus
@@ -149,32 +161,50 @@ size_t relay_label(const uint8_t *site, size_t site_length,
                    uint32_t variable,
                    uint32_t *answer, size_t answer_length);
 
-/* Swap a level and the one below it. A made swap changes `table` and `order`; any other answer leaves both
- * as they are. `answer` holds RELAY_SWAP_NUMBERS or more, whatever the answer will be.
- *   made:    RELAY_MADE
- *   no room: RELAY_NO_ROOM, the level, needed, free; more records are needed than are free or die in this swap
- *   refused: the refusal's number (1, 2, 4 to 9, 12), its place
+/* Swap a level and the one below it. A made swap changes `table`, `order` and `log`; any other answer leaves all three as they
+ * are. Supply may be lost at any moment of it: relay_recover then brings `table` and `order` back. `answer` holds
+ * RELAY_SWAP_NUMBERS or more, whatever the answer will be.
+ *   made:      RELAY_MADE
+ *   no room:   RELAY_NO_ROOM, the level, needed, free; more records are needed than are free or die in this swap
+ *   log short: RELAY_LOG_SHORT, the level, entries needed, entries held; there is room, but the log is too short
+ *   refused:   the refusal's number (1, 14, 15, 2, 4 to 9, 12, in this order), its place
  */
 size_t relay_swap(uint8_t *table, size_t table_length,
                   const uint8_t *roots, size_t roots_length,
                   uint8_t *order, size_t order_length,
+                  uint8_t *log, size_t log_length,
                   uint32_t level,
                   uint32_t *answer, size_t answer_length);
 
-/* Run one slice towards the target by a plan, with a budget of swaps. The swaps made change `table` and `order`; a
- * refusal leaves both as they are. `answer` holds RELAY_RUN_NUMBERS or more, whatever the answer will be.
- *   done:    RELAY_DONE, swaps made in this slice, left (0)
- *   no room: RELAY_NO_ROOM, swaps, left, the upper level of the next pair, needed, free
- *   paused:  RELAY_PAUSED, swaps, left
- *   refused: the refusal's number (1 to 9, 13), its place; 13 is judged last
+/* Run one slice towards the target by a plan, with a budget of swaps. The swaps made change `table`, `order` and `log`; a
+ * refusal leaves all three as they are. Supply may be lost at any moment of it, as in relay_swap. `answer` holds
+ * RELAY_RUN_NUMBERS or more, whatever the answer will be.
+ *   done:      RELAY_DONE, swaps made in this slice, left (0)
+ *   no room:   RELAY_NO_ROOM, swaps, left, the upper level of the next pair, needed, free
+ *   log short: RELAY_LOG_SHORT, swaps, left, the upper level of the next pair, entries needed, entries held
+ *   paused:    RELAY_PAUSED, swaps, left
+ *   refused:   the refusal's number (1, 14, 15, 2 to 9, 13, in this order), its place
  */
 size_t relay_run(uint8_t *table, size_t table_length,
                  const uint8_t *roots, size_t roots_length,
                  uint8_t *order, size_t order_length,
                  const uint8_t *target, size_t target_length,
+                 uint8_t *log, size_t log_length,
                  uint32_t plan,
                  uint32_t budget,
                  uint32_t *answer, size_t answer_length);
+
+/* Recover from supply lost in a swap or a run: puts `table` and `order` back as they were before the swap that was cut, or leaves
+ * them where none was. To be called at start-up, before anything else; it may be cut itself and begun again. It changes `table`,
+ * `order` and `log` only where the log is sealed, and nothing where it refuses. `answer` holds RELAY_RECOVER_NUMBERS or more,
+ * whatever the answer will be.
+ *   put back: RELAY_PUT_BACK, the number of entries put back (0 where nothing had to be)
+ *   refused:  the refusal's number (1, of the table and the order; 14), its place
+ */
+size_t relay_recover(uint8_t *table, size_t table_length,
+                     uint8_t *order, size_t order_length,
+                     uint8_t *log, size_t log_length,
+                     uint32_t *answer, size_t answer_length);
 
 #ifdef __cplusplus
 }

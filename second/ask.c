@@ -1,28 +1,33 @@
 /* Asks the library questions that come on standard input, one after the other, and tells on standard output what it wrote and what it left in
  * every buffer. So the second program, which puts the questions, runs on any machine, and the library in a process of its own.
  *
- * A question: ten 32-bit numbers (which entry; the lengths of table, roots, order and of one buffer more, the inputs or the target; the number
- * asked for: position, level, plan or variable; the budget; how many entries are lent of the list, of the places for a count and of those for a
- * share), the list, both rows of places, and the four buffers. Where a label is asked for, the first two of these are the site's list and the
- * factory's, and the others are empty.
- * The answer: the number of numbers written, the list, the places and the four buffers, each whole.
+ * A question: eleven 32-bit numbers (which entry; the lengths of table, roots, order, of one buffer more, the inputs or the target, and of the log;
+ * the number asked for: position, level, plan or variable; the budget; how many entries are lent of the list, of the places for a count and of
+ * those for a share), the list, both rows of places, and the five buffers. Where a label is asked for, the first two of these are the site's list
+ * and the factory's, and the others are empty.
+ * The answer: the number of numbers written, the list, the places and the five buffers, each whole. Where WATCHED is added to the entry, there
+ * follow the number of bytes that the call changed in table, order and log, and for each, in turn, the number of the store, its place in these
+ * three, one after the other, and the byte.
  */
+#define _DEFAULT_SOURCE
 #include <stdio.h>
 #include <stdlib.h>
 #include <string.h>
 #include "relay.h"
+#include "watch.h"
 
 /* The list and the places that are lent for an answer lie at the start of this many entries. */
 #define LIST 8
 #define PLACES 2
-/* Bytes before and after each buffer that nobody may write to, and what they hold. */
+/* Bytes before and after each buffer that nobody may write to, and what they hold: nothing that a seal, an entry or a record is likely to have. */
 #define GUARD 16
-#define GUARDED 0xA5
+#define GUARDED 0xC9
 
-enum { CHECK, READ, SHOW, SWAP, RUN, COUNT, LABEL };
+enum { CHECK, READ, SHOW, SWAP, RUN, COUNT, LABEL, RECOVER };
+#define WATCHED 256
 
 struct question {
-    uint32_t entry, table, roots, order, more, number, budget, entries, counts, shares;
+    uint32_t entry, table, roots, order, more, log, number, budget, entries, counts, shares;
 };
 
 struct buffer {
@@ -74,7 +79,7 @@ static void give_back(struct buffer b)
     free(b.bytes - GUARD);
 }
 
-static size_t ask(const struct question *q, struct buffer t, struct buffer r, struct buffer o, struct buffer m, struct answer a)
+static size_t ask(const struct question *q, struct buffer t, struct buffer r, struct buffer o, struct buffer m, struct buffer l, struct answer a)
 {
     uint32_t *list = (uint32_t *)a.list.bytes;
     uint64_t *counts = (uint64_t *)a.counts.bytes;
@@ -87,17 +92,42 @@ static size_t ask(const struct question *q, struct buffer t, struct buffer r, st
     case SHOW:
         return relay_show(t.bytes, t.length, r.bytes, r.length, o.bytes, o.length, q->number, list, q->entries);
     case SWAP:
-        return relay_swap(t.bytes, t.length, r.bytes, r.length, o.bytes, o.length, q->number, list, q->entries);
+        return relay_swap(t.bytes, t.length, r.bytes, r.length, o.bytes, o.length, l.bytes, l.length, q->number, list, q->entries);
     case RUN:
-        return relay_run(t.bytes, t.length, r.bytes, r.length, o.bytes, o.length, m.bytes, m.length, q->number, q->budget, list, q->entries);
+        return relay_run(t.bytes, t.length, r.bytes, r.length, o.bytes, o.length, m.bytes, m.length, l.bytes, l.length, q->number, q->budget, list,
+                         q->entries);
     case COUNT:
         return relay_count(t.bytes, t.length, r.bytes, r.length, o.bytes, o.length, q->number, counts, q->counts, shares, q->shares, list, q->entries);
     case LABEL:
         return relay_label(t.bytes, t.length, r.bytes, r.length, q->number, list, q->entries);
+    case RECOVER:
+        return relay_recover(t.bytes, t.length, o.bytes, o.length, l.bytes, l.length, list, q->entries);
     default:
         fail("no such entry");
         return 0;
     }
+}
+
+/* The same with table, order and log in the pages that are watched, one after the other. */
+static size_t ask_watched(struct question *q, struct buffer t, struct buffer r, struct buffer o, struct buffer m, struct buffer l, struct answer a)
+{
+    size_t all = t.length + o.length + l.length, written;
+    uint8_t *pages = watch_pages();
+    if (!pages || all > WATCH_BYTES)
+        fail("no pages to watch");
+    struct buffer table = {pages, t.length}, order = {pages + t.length, o.length}, log = {pages + t.length + o.length, l.length};
+    memcpy(table.bytes, t.bytes, t.length);
+    memcpy(order.bytes, o.bytes, o.length);
+    memcpy(log.bytes, l.bytes, l.length);
+    q->entry -= WATCHED;
+    watch_begin(all);
+    written = ask(q, table, r, order, m, log, a);
+    watch_end();
+    q->entry += WATCHED;
+    memcpy(t.bytes, table.bytes, t.length);
+    memcpy(o.bytes, order.bytes, o.length);
+    memcpy(l.bytes, log.bytes, l.length);
+    return written;
 }
 
 int main(void)
@@ -107,8 +137,10 @@ int main(void)
         if (q.entries > LIST || q.counts > PLACES || q.shares > PLACES)
             fail("a list too long");
         struct buffer list = lend(LIST * sizeof(uint32_t)), counts = lend(PLACES * sizeof(uint64_t)), shares = lend(PLACES * sizeof(double));
-        struct buffer t = lend(q.table), r = lend(q.roots), o = lend(q.order), m = lend(q.more);
-        uint32_t written = (uint32_t)ask(&q, t, r, o, m, (struct answer){list, counts, shares});
+        struct buffer t = lend(q.table), r = lend(q.roots), o = lend(q.order), m = lend(q.more), l = lend(q.log);
+        struct answer answer = {list, counts, shares};
+        int is_watched = q.entry >= WATCHED;
+        uint32_t written = (uint32_t)(is_watched ? ask_watched(&q, t, r, o, m, l, answer) : ask(&q, t, r, o, m, l, answer));
         tell(&written, sizeof written);
         give_back(list);
         give_back(counts);
@@ -117,6 +149,11 @@ int main(void)
         give_back(r);
         give_back(o);
         give_back(m);
+        give_back(l);
+        if (is_watched) {
+            tell(&change_count, sizeof change_count);
+            tell(changes, change_count * sizeof changes[0]);
+        }
         if (fflush(stdout) != 0)
             fail("nobody takes the answer");
     }

@@ -1,7 +1,7 @@
 /* The library as C sees it: its header, its static archive, and the answers of
- * each call for cases of the bench sheet, whole and damaged, and for lists of
- * labels, in 256 KiB of stack. The answers and the buffers afterwards are
- * written out by hand. */
+ * each call for cases of the bench sheet, whole and damaged, with their logs,
+ * and for lists of labels, in 256 KiB of stack. The answers and the buffers
+ * afterwards are written out by hand. */
 
 #define _POSIX_C_SOURCE 200809L
 
@@ -19,6 +19,10 @@
 #define LEVELS RELAY_MOST_VARIABLES
 #define PLACES 2
 #define MANY_LABELS ((RELAY_MOST_LABELS + 1) * RELAY_LABEL_SIZE)
+#define LOG_RECORDS 5
+#define LOG_LENGTH (LOG_RECORDS * RELAY_LOG_RECORD_SIZE)
+#define AROUND 24
+#define AROUND_BYTE 0xC9
 #define UNTOUCHED UINT32_C(0xA5A55A5A)
 #define UNTOUCHED_PLACE UINT64_C(0xA5A55A5A5A5AA5A5)
 
@@ -68,13 +72,69 @@ static const uint8_t order_0_1[2] = {0, 1};
 static const uint8_t order_1_0[2] = {1, 0};
 static const uint8_t order_1_1[2] = {1, 1};
 
-/* The buffers of one call. */
+/* The log before a swap: empty, or with something under a seal whose byte 0 is
+ * 0. After a swap of case A, which changes all three records: each as it was,
+ * then levels 0 and 1, then the seal. */
+static const uint8_t log_empty[LOG_LENGTH] = {0};
+static const uint8_t log_used[LOG_LENGTH] = {
+    7, 7, 7, 7, 7, 7, 7, 7, 7, 7, 7, 7, 7, 7, 7, 7, /* */
+    7, 7, 7, 7, 7, 7, 7, 7, 7, 7, 7, 7, 7, 7, 7, 7, /* */
+    7, 7, 7, 7, 7, 7, 7, 7, 7, 7, 7, 7, 7, 7, 7, 7, /* */
+    7, 7, 7, 7, 7, 7, 7, 7, 7, 7, 7, 7, 7, 7, 7, 7, /* */
+    0, 7, 7, 7, 7, 7, 7, 7, 7, 7, 7, 7, 7, 7, 7, 7, /* */
+};
+static const uint8_t log_a_after[LOG_LENGTH] = {
+    0, 0, 0, 0, 1,   0, 0, 0, 1, 0, 0, 0, 0, 0, 0, 0, /* */
+    0, 0, 1, 0, 0,   0, 0, 0, 2, 0, 0, 0, 0, 0, 0, 0, /* */
+    0, 0, 2, 0, 255, 0, 0, 0, 0, 0, 0, 0, 0, 0, 0, 0, /* */
+    0, 1, 0, 0, 0,   1, 0, 0, 0, 0, 0, 0, 0, 0, 0, 0, /* */
+    0, 0, 4, 0, 0,   0, 0, 0, 0, 0, 0, 0, 0, 0, 0, 0, /* */
+};
+/* After a swap of case B, records 0 and 1 and the levels; the fourth record is
+ * beyond. */
+static const uint8_t log_b_after[LOG_LENGTH] = {
+    0, 0, 0, 0, 1, 0, 0, 0, 1, 0, 0, 0, 0, 0, 0, 0, /* */
+    0, 0, 1, 0, 0, 0, 0, 0, 2, 0, 0, 0, 0, 0, 0, 0, /* */
+    0, 1, 0, 0, 0, 1, 0, 0, 0, 0, 0, 0, 0, 0, 0, 0, /* */
+    7, 7, 7, 7, 7, 7, 7, 7, 7, 7, 7, 7, 7, 7, 7, 7, /* */
+    0, 0, 3, 0, 0, 0, 0, 0, 0, 0, 0, 0, 0, 0, 0, 0, /* */
+};
+/* After a swap of case C, records 1 and 2 and the levels. */
+static const uint8_t log_c_after[LOG_LENGTH] = {
+    0, 0, 1, 0, 0,   0, 0, 0, 2, 0, 0, 0, 0, 0, 0, 0, /* */
+    0, 0, 2, 0, 255, 0, 0, 0, 0, 0, 0, 0, 0, 0, 0, 0, /* */
+    0, 1, 0, 0, 0,   1, 0, 0, 0, 0, 0, 0, 0, 0, 0, 0, /* */
+    0, 0, 0, 0, 0,   0, 0, 0, 0, 0, 0, 0, 0, 0, 0, 0, /* */
+    0, 0, 3, 0, 0,   0, 0, 0, 0, 0, 0, 0, 0, 0, 0, 0, /* */
+};
+/* While case A is being swapped, and with an entry of no kind. */
+static const uint8_t log_a_sealed[LOG_LENGTH] = {
+    0,   0, 0, 0, 1,   0, 0, 0, 1, 0, 0, 0, 0, 0, 0, 0, /* */
+    0,   0, 1, 0, 0,   0, 0, 0, 2, 0, 0, 0, 0, 0, 0, 0, /* */
+    0,   0, 2, 0, 255, 0, 0, 0, 0, 0, 0, 0, 0, 0, 0, 0, /* */
+    0,   1, 0, 0, 0,   1, 0, 0, 0, 0, 0, 0, 0, 0, 0, 0, /* */
+    165, 0, 4, 0, 0,   0, 0, 0, 0, 0, 0, 0, 0, 0, 0, 0, /* */
+};
+static const uint8_t log_a_damaged[LOG_LENGTH] = {
+    0,   0, 0, 0, 1,   0, 0, 0, 1, 0, 0, 0, 0, 0, 0, 0, /* */
+    0,   0, 1, 0, 0,   0, 0, 0, 2, 0, 0, 0, 0, 0, 0, 0, /* */
+    0,   2, 2, 0, 255, 0, 0, 0, 0, 0, 0, 0, 0, 0, 0, 0, /* */
+    0,   1, 0, 0, 0,   1, 0, 0, 0, 0, 0, 0, 0, 0, 0, 0, /* */
+    165, 0, 4, 0, 0,   0, 0, 0, 0, 0, 0, 0, 0, 0, 0, 0, /* */
+};
+
+/* The buffers of one call. The log is lent from its beginning, with bytes
+ * around it that nobody may write to. */
 struct lent {
     uint8_t table[WHOLE];
     size_t table_length;
     uint8_t roots[TWO_ROOTS];
     size_t roots_length;
     uint8_t order[2];
+    uint8_t before_log[AROUND];
+    uint8_t log[LOG_LENGTH];
+    uint8_t after_log[AROUND];
+    size_t log_length;
     uint32_t list[LIST];
 };
 
@@ -89,20 +149,55 @@ static struct lent lend(const uint8_t *table, size_t table_length,
     memcpy(lent.roots, roots, TWO_ROOTS);
     lent.roots_length = roots_length;
     memcpy(lent.order, order_0_1, sizeof order_0_1);
+    memset(lent.before_log, AROUND_BYTE, AROUND);
+    memcpy(lent.log, log_empty, LOG_LENGTH);
+    memset(lent.after_log, AROUND_BYTE, AROUND);
+    lent.log_length = LOG_LENGTH;
     for (entry = 0; entry < LIST; entry++) {
         lent.list[entry] = UNTOUCHED;
     }
     return lent;
 }
 
+/* The same with this log, of which only the beginning is lent. */
+static struct lent with_log(struct lent lent, const uint8_t *log,
+                            size_t log_length)
+{
+    memcpy(lent.log, log, LOG_LENGTH);
+    lent.log_length = log_length;
+    return lent;
+}
+
+/* The same with the order exchanged. */
+static struct lent exchanged(struct lent lent)
+{
+    memcpy(lent.order, order_1_0, sizeof order_1_0);
+    return lent;
+}
+
 /* What a call must do: write so many numbers, these, and leave the table and
- * the order so. */
+ * the order so, and the log; without one, it must be empty. */
 struct expected {
     size_t written;
     uint32_t numbers[LIST];
     const uint8_t *table;
     const uint8_t *order;
+    const uint8_t *log;
 };
+
+/* 0 where the log is as expected, and the bytes around it as they were. */
+static int log_differs(const struct lent *lent, struct expected expected)
+{
+    const uint8_t *log = expected.log ? expected.log : log_empty;
+    size_t byte;
+    int same = memcmp(lent->log, log, LOG_LENGTH) == 0;
+
+    for (byte = 0; byte < AROUND; byte++) {
+        same = same && lent->before_log[byte] == AROUND_BYTE &&
+               lent->after_log[byte] == AROUND_BYTE;
+    }
+    return !same;
+}
 
 /* The list must hold the numbers, its other entries and the roots what they
  * held before. 0 where all is as expected. */
@@ -113,7 +208,8 @@ static int differs(const char *name, const struct lent *lent, size_t written,
     int same = written == expected.written &&
                memcmp(lent->table, expected.table, WHOLE) == 0 &&
                memcmp(lent->roots, roots, TWO_ROOTS) == 0 &&
-               memcmp(lent->order, expected.order, 2) == 0;
+               memcmp(lent->order, expected.order, 2) == 0 &&
+               !log_differs(lent, expected);
 
     for (entry = 0; entry < LIST; entry++) {
         same = same && lent->list[entry] == (entry < expected.written
@@ -129,10 +225,11 @@ static int differs(const char *name, const struct lent *lent, size_t written,
         printf("  %" PRIu32 ", expected %" PRIu32 "\n", lent->list[entry],
                entry < expected.written ? expected.numbers[entry] : UNTOUCHED);
     }
-    printf("  table %s, roots %s, order %s\n",
+    printf("  table %s, roots %s, order %s, log %s\n",
            memcmp(lent->table, expected.table, WHOLE) ? "wrong" : "right",
            memcmp(lent->roots, roots, TWO_ROOTS) ? "wrong" : "right",
-           memcmp(lent->order, expected.order, 2) ? "wrong" : "right");
+           memcmp(lent->order, expected.order, 2) ? "wrong" : "right",
+           log_differs(lent, expected) ? "wrong" : "right");
     return 1;
 }
 
@@ -148,9 +245,9 @@ static int check(const char *name, const uint8_t *table, size_t entries,
 
 static int checks(void)
 {
-    struct expected accepted = {2, {RELAY_ACCEPTED, 2}, case_a, order_0_1};
-    struct expected refused = {2, {RELAY_REFUSED_MALFORMED, 2}, damaged, order_0_1};
-    struct expected nothing = {0, {0}, case_a, order_0_1};
+    struct expected accepted = {2, {RELAY_ACCEPTED, 2}, case_a, order_0_1, NULL};
+    struct expected refused = {2, {RELAY_REFUSED_MALFORMED, 2}, damaged, order_0_1, NULL};
+    struct expected nothing = {0, {0}, case_a, order_0_1, NULL};
 
     return check("check A", case_a, LIST, accepted) ||
            check("check A, list of 2", case_a, 2, accepted) ||
@@ -213,13 +310,13 @@ static int read_down(const char *name, uint8_t last_input, uint32_t value)
 
 static int reads(void)
 {
-    struct expected value_0 = {2, {RELAY_VALUE, 0}, case_a, order_0_1};
-    struct expected value_1 = {2, {RELAY_VALUE, 1}, case_a, order_0_1};
+    struct expected value_0 = {2, {RELAY_VALUE, 0}, case_a, order_0_1, NULL};
+    struct expected value_1 = {2, {RELAY_VALUE, 1}, case_a, order_0_1, NULL};
     struct expected no_root = {
-        2, {RELAY_REFUSED_POSITION, 1}, case_a, order_0_1};
+        2, {RELAY_REFUSED_POSITION, 1}, case_a, order_0_1, NULL};
     struct expected no_input = {
-        2, {RELAY_REFUSED_INPUTS, 0}, case_a, order_0_1};
-    struct expected nothing = {0, {0}, case_a, order_0_1};
+        2, {RELAY_REFUSED_INPUTS, 0}, case_a, order_0_1, NULL};
+    struct expected nothing = {0, {0}, case_a, order_0_1, NULL};
 
     return read_a("read A under 0 0", 0, 0, 0, LIST, value_0) ||
            read_a("read A under 0 1", 0, 0, 1, LIST, value_0) ||
@@ -246,12 +343,12 @@ static int show(const char *name, const uint8_t *table, uint32_t position,
 static int shows(void)
 {
     struct expected record_1 = {
-        2, {RELAY_RECORD_SIZE, RELAY_RECORD_SIZE}, case_a, order_0_1};
+        2, {RELAY_RECORD_SIZE, RELAY_RECORD_SIZE}, case_a, order_0_1, NULL};
     struct expected record_0 = {
-        2, {0, RELAY_RECORD_SIZE}, case_a, order_0_1};
-    struct expected no_root = {2, {0, 0}, case_a, order_0_1};
-    struct expected refused = {2, {0, 0}, damaged, order_0_1};
-    struct expected nothing = {0, {0}, case_a, order_0_1};
+        2, {0, RELAY_RECORD_SIZE}, case_a, order_0_1, NULL};
+    struct expected no_root = {2, {0, 0}, case_a, order_0_1, NULL};
+    struct expected refused = {2, {0, 0}, damaged, order_0_1, NULL};
+    struct expected nothing = {0, {0}, case_a, order_0_1, NULL};
 
     return show("show C, first root", case_a, 0, LIST, record_1) ||
            show("show C, second root", case_a, 1, LIST, record_0) ||
@@ -265,8 +362,8 @@ static int swap(const char *name, struct lent lent, uint32_t level,
 {
     size_t written =
         relay_swap(lent.table, lent.table_length, lent.roots,
-                   lent.roots_length, lent.order, sizeof lent.order, level,
-                   lent.list, entries);
+                   lent.roots_length, lent.order, sizeof lent.order, lent.log,
+                   lent.log_length, level, lent.list, entries);
     return differs(name, &lent, written, expected);
 }
 
@@ -276,14 +373,19 @@ static int swaps(void)
     struct lent b = lend(case_a, WITHOUT_LAST, ONE_ROOT);
     struct lent b_both = lend(case_a, WITHOUT_LAST, TWO_ROOTS);
     struct lent c = lend(case_a, WHOLE, TWO_ROOTS);
-    struct expected made = {1, {RELAY_MADE}, case_a_after, order_1_0};
-    struct expected made_b = {1, {RELAY_MADE}, case_b_after, order_1_0};
-    struct expected made_c = {1, {RELAY_MADE}, case_c_after, order_1_0};
+    struct expected made = {
+        1, {RELAY_MADE}, case_a_after, order_1_0, log_a_after};
+    struct expected made_b = {
+        1, {RELAY_MADE}, case_b_after, order_1_0, log_b_after};
+    struct expected made_c = {
+        1, {RELAY_MADE}, case_c_after, order_1_0, log_c_after};
     struct expected no_room = {
-        4, {RELAY_NO_ROOM, 0, 1, 0}, case_a, order_0_1};
+        4, {RELAY_NO_ROOM, 0, 1, 0}, case_a, order_0_1, NULL};
     struct expected no_level = {
-        2, {RELAY_REFUSED_LEVEL, 1}, case_a, order_0_1};
-    struct expected nothing = {0, {0}, case_a, order_0_1};
+        2, {RELAY_REFUSED_LEVEL, 1}, case_a, order_0_1, NULL};
+    struct expected nothing = {0, {0}, case_a, order_0_1, NULL};
+
+    b = with_log(b, log_used, LOG_LENGTH);
 
     return swap("swap A", a, 0, LIST, made) ||
            swap("swap A, list of 4", a, 0, RELAY_SWAP_NUMBERS, made) ||
@@ -303,7 +405,7 @@ static int run_by(uint32_t plan, const char *name, struct lent lent,
     size_t written =
         relay_run(lent.table, lent.table_length, lent.roots,
                   lent.roots_length, lent.order, sizeof lent.order, target, 2,
-                  plan, budget, lent.list, entries);
+                  lent.log, lent.log_length, plan, budget, lent.list, entries);
     return differs(name, &lent, written, expected);
 }
 
@@ -327,18 +429,21 @@ static int runs(void)
     struct lent b = lend(case_a, WITHOUT_LAST, ONE_ROOT);
     struct lent b_both = lend(case_a, WITHOUT_LAST, TWO_ROOTS);
     struct lent c = lend(case_a, WHOLE, TWO_ROOTS);
-    struct expected done = {3, {RELAY_DONE, 1, 0}, case_a_after, order_1_0};
+    struct lent b_used = with_log(b, log_used, LOG_LENGTH);
+    struct expected done = {
+        3, {RELAY_DONE, 1, 0}, case_a_after, order_1_0, log_a_after};
     struct expected done_b = {
-        3, {RELAY_DONE, 1, 0}, case_b_after, order_1_0};
+        3, {RELAY_DONE, 1, 0}, case_b_after, order_1_0, log_b_after};
     struct expected done_c = {
-        3, {RELAY_DONE, 1, 0}, case_c_after, order_1_0};
-    struct expected there = {3, {RELAY_DONE, 0, 0}, case_a, order_0_1};
-    struct expected paused = {3, {RELAY_PAUSED, 0, 1}, case_a, order_0_1};
+        3, {RELAY_DONE, 1, 0}, case_c_after, order_1_0, log_c_after};
+    struct expected there = {3, {RELAY_DONE, 0, 0}, case_a, order_0_1, NULL};
+    struct expected paused = {
+        3, {RELAY_PAUSED, 0, 1}, case_a, order_0_1, NULL};
     struct expected no_room = {
-        6, {RELAY_NO_ROOM, 0, 1, 0, 1, 0}, case_a, order_0_1};
+        6, {RELAY_NO_ROOM, 0, 1, 0, 1, 0}, case_a, order_0_1, NULL};
     struct expected refused = {
-        2, {RELAY_REFUSED_TARGET, 1}, case_a, order_0_1};
-    struct expected nothing = {0, {0}, case_a, order_0_1};
+        2, {RELAY_REFUSED_TARGET, 1}, case_a, order_0_1, NULL};
+    struct expected nothing = {0, {0}, case_a, order_0_1, NULL};
 
     return run("run A", a, order_1_0, 1, LIST, done) ||
            run("run A, list of 6", a, order_1_0, UINT32_MAX, RELAY_RUN_NUMBERS,
@@ -346,7 +451,7 @@ static int runs(void)
            run("run A, budget 0", a, order_1_0, 0, LIST, paused) ||
            run("run A, target 0 1", a, order_0_1, 0, LIST, there) ||
            run("run A, target 1 1", a, order_1_1, 1, LIST, refused) ||
-           run("run B", b, order_1_0, 1, LIST, done_b) ||
+           run("run B", b_used, order_1_0, 1, LIST, done_b) ||
            run("run B, budget 0", b, order_1_0, 0, LIST, paused) ||
            run("run B, both named", b_both, order_1_0, 1, LIST, no_room) ||
            run("run B, both named, budget 0", b_both, order_1_0, 0, LIST,
@@ -363,16 +468,159 @@ static int refused_plan(uint32_t plan)
     struct lent a = lend(case_a, WHOLE, ONE_ROOT);
     struct lent spoilt = lend(damaged, WHOLE, ONE_ROOT);
     struct expected no_plan = {
-        2, {RELAY_REFUSED_PLAN, plan}, case_a, order_0_1};
+        2, {RELAY_REFUSED_PLAN, plan}, case_a, order_0_1, NULL};
     struct expected malformed = {
-        2, {RELAY_REFUSED_MALFORMED, 2}, damaged, order_0_1};
-    struct expected nothing = {0, {0}, case_a, order_0_1};
+        2, {RELAY_REFUSED_MALFORMED, 2}, damaged, order_0_1, NULL};
+    struct expected nothing = {0, {0}, case_a, order_0_1, NULL};
 
     return run_by(plan, "run A, no such plan", a, order_1_0, 1, LIST, no_plan) ||
            run_by(plan, "run A damaged, no such plan", spoilt, order_1_0, 1,
                   LIST, malformed) ||
            run_by(plan, "run A, no such plan, list of 5", a, order_1_0, 1, 5,
                   nothing);
+}
+
+static int recover(const char *name, struct lent lent, size_t entries,
+                   struct expected expected)
+{
+    size_t written = relay_recover(lent.table, lent.table_length, lent.order,
+                                   sizeof lent.order, lent.log,
+                                   lent.log_length, lent.list, entries);
+    return differs(name, &lent, written, expected);
+}
+
+/* Whatever of case A's swap was made when supply was lost; recovered once more
+ * it stays so. A list too short is answered 0, and nothing changes. */
+static int recoveries(void)
+{
+    struct lent before = with_log(lend(case_a, WHOLE, ONE_ROOT), log_a_sealed,
+                                  LOG_LENGTH);
+    struct lent after = exchanged(with_log(
+        lend(case_a_after, WHOLE, ONE_ROOT), log_a_sealed, LOG_LENGTH));
+    struct lent torn = with_log(lend(case_a_after, WHOLE, ONE_ROOT),
+                                log_a_sealed, LOG_LENGTH);
+    struct lent made = exchanged(with_log(
+        lend(case_a_after, WHOLE, ONE_ROOT), log_a_after, LOG_LENGTH));
+    struct lent used = with_log(lend(damaged, WHOLE, ONE_ROOT), log_used,
+                                LOG_LENGTH);
+    struct expected put_back = {
+        2, {RELAY_PUT_BACK, 4}, case_a, order_0_1, log_a_after};
+    struct expected stays = {
+        2, {RELAY_PUT_BACK, 0}, case_a_after, order_1_0, log_a_after};
+    struct expected stays_damaged = {
+        2, {RELAY_PUT_BACK, 0}, damaged, order_0_1, log_used};
+    struct expected nothing = {
+        0, {0}, case_a_after, order_1_0, log_a_sealed};
+
+    return recover("recover A before its swap", before, LIST, put_back) ||
+           recover("recover A torn", torn, LIST, put_back) ||
+           recover("recover A after its swap", after, LIST, put_back) ||
+           recover("recover A, list of 2", after, RELAY_RECOVER_NUMBERS,
+                   put_back) ||
+           recover("recover A, swap made", made, LIST, stays) ||
+           recover("recover a damaged table", used, LIST, stays_damaged) ||
+           recover("recover A, list of 1", after, 1, nothing) ||
+           recover("recover A, list of 0", after, 0, nothing);
+}
+
+/* Swap, Run and Recover with a log of this length that is refused, at this
+ * place, and with a list too short. */
+static int refused_log(const char *name, const uint8_t *log, size_t log_length,
+                       uint32_t number, uint32_t place)
+{
+    struct lent lent =
+        with_log(lend(case_a, WHOLE, ONE_ROOT), log, log_length);
+    struct expected refused = {2, {number, place}, case_a, order_0_1, log};
+    struct expected nothing = {0, {0}, case_a, order_0_1, log};
+
+    return swap(name, lent, 0, LIST, refused) ||
+           swap(name, lent, 0, RELAY_SWAP_NUMBERS - 1, nothing) ||
+           run(name, lent, order_1_0, 1, LIST, refused) ||
+           run(name, lent, order_1_0, 1, RELAY_RUN_NUMBERS - 1, nothing) ||
+           (number != RELAY_REFUSED_SEALED &&
+            (recover(name, lent, LIST, refused) ||
+             recover(name, lent, RELAY_RECOVER_NUMBERS - 1, nothing)));
+}
+
+static int refused_logs(void)
+{
+    return refused_log("no log", log_used, 0, RELAY_REFUSED_LOG, 0) ||
+           refused_log("log of 1 byte", log_used, 1, RELAY_REFUSED_LOG, 0) ||
+           refused_log("log of 79 bytes", log_a_after, LOG_LENGTH - 1,
+                       RELAY_REFUSED_LOG, 0) ||
+           refused_log("log with a bad seal", log_used, 16, RELAY_REFUSED_LOG,
+                       0) ||
+           refused_log("log with a bad seal, of two", log_used, 32,
+                       RELAY_REFUSED_LOG, 1) ||
+           refused_log("log with a bad entry", log_a_damaged, LOG_LENGTH,
+                       RELAY_REFUSED_LOG, 2) ||
+           refused_log("sealed log", log_a_sealed, LOG_LENGTH,
+                       RELAY_REFUSED_SEALED, 0);
+}
+
+/* A log of four records holds three entries, and one of a single record none;
+ * case A needs four. No room goes first. */
+static int short_logs(void)
+{
+    struct lent four =
+        with_log(lend(case_a, WHOLE, ONE_ROOT), log_empty, LOG_LENGTH - 16);
+    struct lent one = with_log(lend(case_a, WHOLE, ONE_ROOT), log_empty, 16);
+    struct lent no_room_either =
+        with_log(lend(case_a, WITHOUT_LAST, TWO_ROOTS), log_empty, 16);
+    struct expected swap_four = {
+        4, {RELAY_LOG_SHORT, 0, 4, 3}, case_a, order_0_1, NULL};
+    struct expected swap_one = {
+        4, {RELAY_LOG_SHORT, 0, 4, 0}, case_a, order_0_1, NULL};
+    struct expected swap_no_room = {
+        4, {RELAY_NO_ROOM, 0, 1, 0}, case_a, order_0_1, NULL};
+    struct expected run_four = {
+        6, {RELAY_LOG_SHORT, 0, 1, 0, 4, 3}, case_a, order_0_1, NULL};
+    struct expected run_no_room = {
+        6, {RELAY_NO_ROOM, 0, 1, 0, 1, 0}, case_a, order_0_1, NULL};
+    struct expected there = {3, {RELAY_DONE, 0, 0}, case_a, order_0_1, NULL};
+
+    return swap("swap A, log of 4", four, 0, LIST, swap_four) ||
+           swap("swap A, a seal alone", one, 0, LIST, swap_one) ||
+           swap("swap B, both named, a seal alone", no_room_either, 0, LIST,
+                swap_no_room) ||
+           run("run A, log of 4", four, order_1_0, 1, LIST, run_four) ||
+           run("run A, log of 4, budget 0", four, order_1_0, 0, LIST,
+               run_four) ||
+           run("run B, both named, a seal alone", no_room_either, order_1_0, 1,
+               LIST, run_no_room) ||
+           run("run A, target 0 1, a seal alone", one, order_0_1, 1, LIST,
+               there);
+}
+
+/* The longest log and one record more, not on the stack: whichever is lent, it
+ * ends in a seal without an entry. */
+static uint8_t long_log[(RELAY_MOST_LOG_RECORDS + 1) * RELAY_LOG_RECORD_SIZE];
+
+static int long_logs(void)
+{
+    const size_t longest = sizeof long_log - RELAY_LOG_RECORD_SIZE;
+    uint8_t order[2] = {0, 1};
+    uint8_t no_record[1] = {0};
+    uint32_t list[RELAY_RECOVER_NUMBERS];
+
+    long_log[longest - RELAY_LOG_RECORD_SIZE] = RELAY_SEALED;
+    long_log[longest] = RELAY_SEALED;
+    if (relay_recover(no_record, 0, order, 2, long_log, sizeof long_log, list,
+                      RELAY_RECOVER_NUMBERS) != 2 ||
+        list[0] != RELAY_REFUSED_LOG || list[1] != 0 ||
+        long_log[longest] != RELAY_SEALED) {
+        puts("boundary: recover, log of 4,097 records");
+        return 1;
+    }
+    if (relay_recover(no_record, 0, order, 2, long_log, longest, list,
+                      RELAY_RECOVER_NUMBERS) != 2 ||
+        list[0] != RELAY_PUT_BACK || list[1] != 0 ||
+        long_log[longest - RELAY_LOG_RECORD_SIZE] != 0 ||
+        long_log[longest] != RELAY_SEALED) {
+        puts("boundary: recover, log of 4,096 records");
+        return 1;
+    }
+    return 0;
 }
 
 /* The places of one call of relay_count. */
@@ -439,7 +687,7 @@ static int count(const char *name, struct lent lent, uint32_t position,
 static int counted(const char *name, uint32_t position, struct lengths lengths,
                    uint64_t number, uint64_t share)
 {
-    struct expected counted = {1, {RELAY_COUNTED}, case_a, order_0_1};
+    struct expected counted = {1, {RELAY_COUNTED}, case_a, order_0_1, NULL};
 
     return count(name, lend(case_a, WHOLE, TWO_ROOTS), position, lengths,
                  counted, number, share);
@@ -448,8 +696,8 @@ static int counted(const char *name, uint32_t position, struct lengths lengths,
 /* Nothing is written to any list, whether the table is good or not. */
 static int not_counted(const char *name, struct lengths lengths)
 {
-    struct expected nothing = {0, {0}, case_a, order_0_1};
-    struct expected nothing_damaged = {0, {0}, damaged, order_0_1};
+    struct expected nothing = {0, {0}, case_a, order_0_1, NULL};
+    struct expected nothing_damaged = {0, {0}, damaged, order_0_1, NULL};
 
     return count(name, lend(case_a, WHOLE, ONE_ROOT), 0, lengths, nothing,
                  UNTOUCHED_PLACE, UNTOUCHED_PLACE) ||
@@ -462,11 +710,11 @@ static int refused_counts(void)
     const struct lengths all = {PLACES, PLACES, LIST};
     const struct lengths fewest = {1, 1, RELAY_COUNT_NUMBERS};
     struct expected no_root = {
-        2, {RELAY_REFUSED_POSITION, 1}, case_a, order_0_1};
+        2, {RELAY_REFUSED_POSITION, 1}, case_a, order_0_1, NULL};
     struct expected no_root_by_far = {
-        2, {RELAY_REFUSED_POSITION, UINT32_MAX}, case_a, order_0_1};
+        2, {RELAY_REFUSED_POSITION, UINT32_MAX}, case_a, order_0_1, NULL};
     struct expected malformed = {
-        2, {RELAY_REFUSED_MALFORMED, 2}, damaged, order_0_1};
+        2, {RELAY_REFUSED_MALFORMED, 2}, damaged, order_0_1, NULL};
     struct lent a = lend(case_a, WHOLE, ONE_ROOT);
     struct lent spoilt = lend(damaged, WHOLE, ONE_ROOT);
 
@@ -688,8 +936,9 @@ static void *cases(void *wrong)
 {
     *(int *)wrong = checks() || reads() || shows() || swaps() || runs() ||
                     refused_plan(RELAY_HIGHEST_INVERSION + 1) ||
-                    refused_plan(256) || refused_plan(UINT32_MAX) || counts() ||
-                    labels();
+                    refused_plan(256) || refused_plan(UINT32_MAX) ||
+                    recoveries() || refused_logs() || short_logs() ||
+                    long_logs() || counts() || labels();
     return NULL;
 }
 

@@ -33,9 +33,17 @@ static uint8_t roots[(RELAY_MOST_ROOTS + 1) * RELAY_ROOT_SIZE];
 static uint8_t order[RELAY_MOST_VARIABLES + 1];
 static uint8_t target[RELAY_MOST_VARIABLES + 1];
 static uint8_t labels[(RELAY_MOST_LABELS + 1) * RELAY_LABEL_SIZE];
+static uint8_t undo[(RELAY_MOST_LOG_RECORDS + 1) * RELAY_LOG_RECORD_SIZE];
 static uint32_t answer[RELAY_MOST_NUMBERS];
 static uint64_t count[1];
 static double share[1];
+
+/* An empty log of so many records: how many bytes they have. */
+static size_t log_of(size_t records)
+{
+    memset(undo, 0, sizeof undo);
+    return records * RELAY_LOG_RECORD_SIZE;
+}
 
 /* The calls, of so many records and roots, with two variables. */
 static uint32_t check(size_t records, size_t root_count)
@@ -46,7 +54,27 @@ static uint32_t check(size_t records, size_t root_count)
 
 static uint32_t run(size_t records, size_t root_count, uint32_t plan, uint32_t budget)
 {
-    relay_run(table, records * RELAY_RECORD_SIZE, roots, root_count * RELAY_ROOT_SIZE, order, 2, target, 2, plan, budget, answer, RELAY_RUN_NUMBERS);
+    relay_run(table, records * RELAY_RECORD_SIZE, roots, root_count * RELAY_ROOT_SIZE, order, 2, target, 2, undo, log_of(8), plan, budget, answer,
+              RELAY_RUN_NUMBERS);
+    return answer[0];
+}
+
+/* Swap and Run of case A, and recovery of it, with a log of so many bytes. */
+static uint32_t swap_a(size_t log_length)
+{
+    relay_swap(table, 24, roots, 2, order, 2, undo, log_length, 0, answer, RELAY_SWAP_NUMBERS);
+    return answer[0];
+}
+
+static uint32_t run_a(size_t log_length)
+{
+    relay_run(table, 24, roots, 2, order, 2, target, 2, undo, log_length, RELAY_BRING_UP, 1, answer, RELAY_RUN_NUMBERS);
+    return answer[0];
+}
+
+static uint32_t recover_a(size_t log_length)
+{
+    relay_recover(table, 24, order, 2, undo, log_length, answer, RELAY_RECOVER_NUMBERS);
     return answer[0];
 }
 
@@ -104,15 +132,17 @@ static void answers(void)
     /* Without the free record, and with a root to record 0 too, so that it doesn't die: no room. */
     roots[RELAY_ROOT_SIZE] = RELAY_FIRST_RECORD;
     expect("RELAY_RUN_NUMBERS",
-           (uint32_t)relay_run(table, 16, roots, 4, order, 2, target, 2, RELAY_BRING_UP, 1, answer, RELAY_RUN_NUMBERS), RELAY_RUN_NUMBERS);
+           (uint32_t)relay_run(table, 16, roots, 4, order, 2, target, 2, undo, log_of(8), RELAY_BRING_UP, 1, answer, RELAY_RUN_NUMBERS),
+           RELAY_RUN_NUMBERS);
     expect("RELAY_NO_ROOM of Run", answer[0], RELAY_NO_ROOM);
     expect("a shorter list for Run",
-           (uint32_t)relay_run(table, 24, roots, 2, order, 2, target, 2, RELAY_BRING_UP, 1, answer, RELAY_RUN_NUMBERS - 1), 0);
-    expect("RELAY_SWAP_NUMBERS", (uint32_t)relay_swap(table, 16, roots, 4, order, 2, 0, answer, RELAY_SWAP_NUMBERS), RELAY_SWAP_NUMBERS);
+           (uint32_t)relay_run(table, 24, roots, 2, order, 2, target, 2, undo, log_of(8), RELAY_BRING_UP, 1, answer, RELAY_RUN_NUMBERS - 1), 0);
+    expect("RELAY_SWAP_NUMBERS",
+           (uint32_t)relay_swap(table, 16, roots, 4, order, 2, undo, log_of(8), 0, answer, RELAY_SWAP_NUMBERS), RELAY_SWAP_NUMBERS);
     expect("RELAY_NO_ROOM of Swap", answer[0], RELAY_NO_ROOM);
-    expect("a shorter list for Swap", (uint32_t)relay_swap(table, 24, roots, 2, order, 2, 0, answer, RELAY_SWAP_NUMBERS - 1), 0);
-    relay_swap(table, 24, roots, 2, order, 2, 0, answer, RELAY_SWAP_NUMBERS);
-    expect("RELAY_MADE", answer[0], RELAY_MADE);
+    expect("a shorter list for Swap",
+           (uint32_t)relay_swap(table, 24, roots, 2, order, 2, undo, log_of(8), 0, answer, RELAY_SWAP_NUMBERS - 1), 0);
+    expect("RELAY_MADE", swap_a(log_of(8)), RELAY_MADE);
     expect("RELAY_DONE", run(3, 1, RELAY_BRING_UP, 0), RELAY_DONE);
     expect("RELAY_FREE", table[0], RELAY_FREE);
     expect("RELAY_MOST_NUMBERS", RELAY_MOST_NUMBERS, RELAY_RUN_NUMBERS);
@@ -151,7 +181,7 @@ static void refusals(void)
     expect("RELAY_REFUSED_POSITION", answer[0], RELAY_REFUSED_POSITION);
     relay_read(table, 24, roots, 2, order, 2, 0, inputs, 1, answer, RELAY_READ_NUMBERS);
     expect("RELAY_REFUSED_INPUTS", answer[0], RELAY_REFUSED_INPUTS);
-    relay_swap(table, 24, roots, 2, order, 2, 1, answer, RELAY_SWAP_NUMBERS);
+    relay_swap(table, 24, roots, 2, order, 2, undo, log_of(8), 1, answer, RELAY_SWAP_NUMBERS);
     expect("RELAY_REFUSED_LEVEL", answer[0], RELAY_REFUSED_LEVEL);
     expect("RELAY_REFUSED_PLAN", run(3, 1, RELAY_HIGHEST_INVERSION + 1, 1), RELAY_REFUSED_PLAN);
     expect("the place of RELAY_REFUSED_PLAN", answer[1], RELAY_HIGHEST_INVERSION + 1);
@@ -169,7 +199,7 @@ static uint32_t first_pair(uint32_t plan)
     for (level = 0; level < 6; level++) {
         target[level] = (uint8_t)level;
     }
-    relay_run(table, 0, roots, 0, order, 6, target, 6, plan, 1, answer, RELAY_RUN_NUMBERS);
+    relay_run(table, 0, roots, 0, order, 6, target, 6, undo, log_of(2), plan, 1, answer, RELAY_RUN_NUMBERS);
     level = 0;
     while (level < 6 && order[level] == before[level]) {
         level++;
@@ -183,6 +213,61 @@ static void plans(void)
     expect("RELAY_SINK_DOWN", first_pair(RELAY_SINK_DOWN), 3);
     expect("RELAY_LOWEST_INVERSION", first_pair(RELAY_LOWEST_INVERSION), 4);
     expect("RELAY_HIGHEST_INVERSION", first_pair(RELAY_HIGHEST_INVERSION), 0);
+}
+
+/* Case A needs four entries, and its seal is the record after them. A log of RELAY_MOST_LOG_RECORDS is taken, and one more is refused. */
+static void logs(void)
+{
+    uint8_t *seal = undo + 4 * RELAY_LOG_RECORD_SIZE;
+
+    case_a();
+    expect("RELAY_LOG_SHORT of Swap", swap_a(log_of(4)), RELAY_LOG_SHORT);
+    expect("RELAY_LOG_SHORT of Run", run_a(log_of(4)), RELAY_LOG_SHORT);
+    expect("entries needed", answer[4], 4);
+    expect("entries held", answer[5], 3);
+    expect("RELAY_MADE with just enough log", swap_a(log_of(5)), RELAY_MADE);
+    expect("RELAY_LOG_RECORD_SIZE, of four entries and the seal", seal[2], 4);
+    expect("the seal of a made swap", seal[0], 0);
+    expect("RELAY_PUT_BACK, nothing", recover_a(5 * RELAY_LOG_RECORD_SIZE), RELAY_PUT_BACK);
+    expect("entries put back, none", answer[1], 0);
+    expect("the table of a made swap", table[0], RELAY_FREE);
+
+    seal[0] = RELAY_SEALED;
+    expect("RELAY_REFUSED_SEALED of Swap", swap_a(5 * RELAY_LOG_RECORD_SIZE), RELAY_REFUSED_SEALED);
+    expect("RELAY_REFUSED_SEALED of Run", run_a(5 * RELAY_LOG_RECORD_SIZE), RELAY_REFUSED_SEALED);
+    expect("RELAY_RECOVER_NUMBERS",
+           (uint32_t)relay_recover(table, 24, order, 2, undo, 5 * RELAY_LOG_RECORD_SIZE, answer, RELAY_RECOVER_NUMBERS), RELAY_RECOVER_NUMBERS);
+    expect("RELAY_PUT_BACK", answer[0], RELAY_PUT_BACK);
+    expect("entries put back", answer[1], 4);
+    expect("RELAY_SEALED, cleared", seal[0], 0);
+    expect("the table put back", table[0], 1);
+    expect("the order put back", order[0], 0);
+    expect("a shorter list for Recover",
+           (uint32_t)relay_recover(table, 24, order, 2, undo, 5 * RELAY_LOG_RECORD_SIZE, answer, RELAY_RECOVER_NUMBERS - 1), 0);
+    seal[0] = RELAY_SEALED - 1;
+    expect("RELAY_REFUSED_LOG of Recover", recover_a(5 * RELAY_LOG_RECORD_SIZE), RELAY_REFUSED_LOG);
+    expect("the place of RELAY_REFUSED_LOG", answer[1], 4);
+    expect("RELAY_REFUSED_LOG of Swap", swap_a(5 * RELAY_LOG_RECORD_SIZE), RELAY_REFUSED_LOG);
+    expect("RELAY_REFUSED_LOG of Run", run_a(5 * RELAY_LOG_RECORD_SIZE), RELAY_REFUSED_LOG);
+
+    expect("RELAY_MOST_LOG_RECORDS", recover_a(log_of(RELAY_MOST_LOG_RECORDS)), RELAY_PUT_BACK);
+    expect("RELAY_MOST_LOG_RECORDS and one", recover_a(log_of(RELAY_MOST_LOG_RECORDS + 1)), RELAY_REFUSED_LOG);
+    expect("RELAY_MOST_LOG_RECORDS of Swap", swap_a(log_of(RELAY_MOST_LOG_RECORDS)), RELAY_MADE);
+    expect("RELAY_MOST_LOG_RECORDS and one, of Swap", swap_a(log_of(RELAY_MOST_LOG_RECORDS + 1)), RELAY_REFUSED_LOG);
+}
+
+/* The numbers themselves, as the rules say them. */
+static void names_of_the_log(void)
+{
+    expect("RELAY_VERSION", 6, RELAY_VERSION);
+    expect("RELAY_LOG_SHORT", 102, RELAY_LOG_SHORT);
+    expect("RELAY_PUT_BACK", 0, RELAY_PUT_BACK);
+    expect("RELAY_REFUSED_LOG", 14, RELAY_REFUSED_LOG);
+    expect("RELAY_REFUSED_SEALED", 15, RELAY_REFUSED_SEALED);
+    expect("RELAY_SEALED", 0xA5, RELAY_SEALED);
+    expect("RELAY_LOG_RECORD_SIZE", 16, RELAY_LOG_RECORD_SIZE);
+    expect("RELAY_MOST_LOG_RECORDS", 4096, RELAY_MOST_LOG_RECORDS);
+    expect("RELAY_RECOVER_NUMBERS", 2, RELAY_RECOVER_NUMBERS);
 }
 
 /* Record i is for variable i. */
@@ -241,6 +326,8 @@ int main(void)
     answers();
     refusals();
     plans();
+    logs();
+    names_of_the_log();
     label_answers();
     limits();
     return failures != 0;

@@ -45,6 +45,7 @@ fn text(case: &Case) -> String {
         table,
         roots,
         order,
+        ..
     } = &case.before;
     let records: Vec<&[u8]> = table.chunks_exact(8).collect();
     let mut sorted = Vec::new();

@@ -35,6 +35,8 @@ extern "C" {
         roots_length: usize,
         order: *mut u8,
         order_length: usize,
+        log: *mut u8,
+        log_length: usize,
         level: u32,
         answer: *mut u32,
         answer_length: usize,
@@ -49,8 +51,21 @@ extern "C" {
         order_length: usize,
         target: *const u8,
         target_length: usize,
+        log: *mut u8,
+        log_length: usize,
         plan: u32,
         budget: u32,
+        answer: *mut u32,
+        answer_length: usize,
+    ) -> usize;
+
+    pub fn relay_recover(
+        table: *mut u8,
+        table_length: usize,
+        order: *mut u8,
+        order_length: usize,
+        log: *mut u8,
+        log_length: usize,
         answer: *mut u32,
         answer_length: usize,
     ) -> usize;

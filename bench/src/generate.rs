@@ -15,6 +15,8 @@ pub const VARIABLES: usize = 32;
 pub const JOB_RECORDS: usize = 512;
 pub const JOB_VARIABLES: usize = 16;
 pub const ROOTS: usize = 64;
+/// The most log records.
+const LOG_RECORDS: usize = 4_096;
 /// The fewest inputs of a root that fills up the rest.
 const FEWEST: usize = 4;
 
@@ -24,6 +26,7 @@ pub struct Buffers {
     pub table: Vec<u8>,
     pub roots: Vec<u8>,
     pub order: Vec<u8>,
+    pub log: Vec<u8>,
 }
 
 impl Buffers {
@@ -204,8 +207,15 @@ impl Diagram {
             table,
             roots: self.roots.iter().flat_map(|&r| reference(r)).collect(),
             order: order.to_vec(),
+            log: empty_log(numbers.len()),
         }
     }
+}
+
+/// An entry for each record, one for the pair of levels, and the seal; or as many
+/// as there may be.
+fn empty_log(records: usize) -> Vec<u8> {
+    vec![0; 16 * (records + 2).min(LOG_RECORDS)]
 }
 
 /// Numbers that a seed decides: xorshift64*.

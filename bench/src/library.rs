@@ -1,7 +1,7 @@
-//! The four calls that the bench makes, each behind one safe function. Each
+//! The five calls that the bench makes, each behind one safe function. Each
 //! writes the answer's numbers into the lent list and tells how many it wrote.
 
-use crate::entries::{relay_check, relay_count, relay_run, relay_swap};
+use crate::entries::{relay_check, relay_count, relay_recover, relay_run, relay_swap};
 use crate::generate::Buffers;
 use crate::ordinary::{Counted, Plan};
 
@@ -9,6 +9,7 @@ use crate::ordinary::{Counted, Plan};
 pub const DONE: u32 = 0;
 pub const NO_ROOM: u32 = 100;
 pub const PAUSED: u32 = 101;
+pub const LOG_SHORT: u32 = 102;
 
 // SAFETY, for each call below: each pointer comes with the length of the live
 // buffer that it points to, no two of the buffers overlap, and those that the
@@ -59,6 +60,7 @@ pub fn count(
 
 pub fn swap(buffers: &mut Buffers, level: u32, answer: &mut [u32; 6]) -> usize {
     let (table, roots, order) = (&mut buffers.table, &buffers.roots, &mut buffers.order);
+    let log = &mut buffers.log;
     unsafe {
         relay_swap(
             table.as_mut_ptr(),
@@ -67,6 +69,8 @@ pub fn swap(buffers: &mut Buffers, level: u32, answer: &mut [u32; 6]) -> usize {
             roots.len(),
             order.as_mut_ptr(),
             order.len(),
+            log.as_mut_ptr(),
+            log.len(),
             level,
             answer.as_mut_ptr(),
             answer.len(),
@@ -82,6 +86,7 @@ pub fn run(
     answer: &mut [u32; 6],
 ) -> usize {
     let (table, roots, order) = (&mut buffers.table, &buffers.roots, &mut buffers.order);
+    let log = &mut buffers.log;
     unsafe {
         relay_run(
             table.as_mut_ptr(),
@@ -92,8 +97,26 @@ pub fn run(
             order.len(),
             target.as_ptr(),
             target.len(),
+            log.as_mut_ptr(),
+            log.len(),
             plan as u32,
             budget,
+            answer.as_mut_ptr(),
+            answer.len(),
+        )
+    }
+}
+
+pub fn recover(buffers: &mut Buffers, answer: &mut [u32; 6]) -> usize {
+    let (table, order, log) = (&mut buffers.table, &mut buffers.order, &mut buffers.log);
+    unsafe {
+        relay_recover(
+            table.as_mut_ptr(),
+            table.len(),
+            order.as_mut_ptr(),
+            order.len(),
+            log.as_mut_ptr(),
+            log.len(),
             answer.as_mut_ptr(),
             answer.len(),
         )

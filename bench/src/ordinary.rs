@@ -2,16 +2,19 @@
 //! what the standard library offers. Records are a Vec, each variable has a
 //! list of its records, the lower records of a swap are found by a HashMap,
 //! the free records are a BTreeSet, and each record counts its names, which
-//! tells what dies in a swap.
+//! tells what dies in a swap. Each swap is written to the buffers, with the undo
+//! log around it.
 
 mod count;
+mod log;
 
 pub use count::{count, count_accepted, Counted};
+pub use log::recover;
 
 use std::collections::{BTreeSet, HashMap, HashSet};
 
 use crate::generate::Buffers;
-use crate::library::{DONE, NO_ROOM, PAUSED};
+use crate::library::{DONE, LOG_SHORT, NO_ROOM, PAUSED};
 
 const FREE: u8 = 255;
 const RECORDS: usize = 4_096;
@@ -24,16 +27,26 @@ pub enum Answer {
     Refused { number: u32, place: usize },
     Made,
     NoRoom(Lack),
+    LogShort(Lack),
     Done { swaps: u32 },
     Stuck { swaps: u32, left: usize, lack: Lack },
+    Short { swaps: u32, left: usize, lack: Lack },
     Paused { swaps: u32, left: usize },
+    PutBack { entries: usize },
 }
 
 #[derive(Clone, Copy, Debug, PartialEq, Eq)]
 pub struct Lack {
     level: usize,
     needed: usize,
-    free: usize,
+    /// The free records, or the entries that the log holds.
+    there: usize,
+}
+
+/// What stands in a swap's way.
+enum Hindrance {
+    NoRoom(Lack),
+    LogShort(Lack),
 }
 
 impl Answer {
@@ -44,23 +57,26 @@ impl Answer {
             Answer::Accepted { used } => vec![0, small(used)],
             Answer::Refused { number, place } => vec![number, small(place)],
             Answer::Made => vec![0],
-            Answer::NoRoom(lack) => vec![
-                NO_ROOM,
-                small(lack.level),
-                small(lack.needed),
-                small(lack.free),
-            ],
+            Answer::NoRoom(lack) => [vec![NO_ROOM], lack.numbers()].concat(),
+            Answer::LogShort(lack) => [vec![LOG_SHORT], lack.numbers()].concat(),
             Answer::Done { swaps } => vec![DONE, swaps, 0],
-            Answer::Stuck { swaps, left, lack } => vec![
-                NO_ROOM,
-                swaps,
-                small(left),
-                small(lack.level),
-                small(lack.needed),
-                small(lack.free),
-            ],
+            Answer::Stuck { swaps, left, lack } => {
+                [vec![NO_ROOM, swaps, small(left)], lack.numbers()].concat()
+            }
+            Answer::Short { swaps, left, lack } => {
+                [vec![LOG_SHORT, swaps, small(left)], lack.numbers()].concat()
+            }
             Answer::Paused { swaps, left } => vec![PAUSED, swaps, small(left)],
+            Answer::PutBack { entries } => vec![0, small(entries)],
         }
+    }
+}
+
+impl Lack {
+    fn numbers(self) -> Vec<u32> {
+        [self.level, self.needed, self.there]
+            .map(|number| number as u32)
+            .to_vec()
     }
 }
 
@@ -104,7 +120,7 @@ pub fn check(buffers: &Buffers) -> Answer {
 }
 
 pub fn swap(buffers: &mut Buffers, level: usize) -> Answer {
-    if let Err(refused) = judge(buffers, None) {
+    if let Err(refused) = judge_with_log(buffers, None) {
         return refused;
     }
     if level + 1 >= buffers.order.len() {
@@ -114,40 +130,44 @@ pub fn swap(buffers: &mut Buffers, level: usize) -> Answer {
         };
     }
     let mut diagram = Diagram::load(buffers);
-    match diagram.prepare(level) {
-        Ok(prepared) => diagram.commit(prepared),
-        Err(lack) => return Answer::NoRoom(lack),
+    match diagram.prepare(level, log::held(&buffers.log)) {
+        Ok(prepared) => diagram.make(prepared, buffers),
+        Err(Hindrance::NoRoom(lack)) => return Answer::NoRoom(lack),
+        Err(Hindrance::LogShort(lack)) => return Answer::LogShort(lack),
     }
-    diagram.store(buffers);
     Answer::Made
 }
 
 pub fn run(buffers: &mut Buffers, target: &[u8], plan: Plan, budget: u32) -> Answer {
-    if let Err(refused) = judge(buffers, Some(target)) {
+    if let Err(refused) = judge_with_log(buffers, Some(target)) {
         return refused;
     }
+    let held = log::held(&buffers.log);
     let mut diagram = Diagram::load(buffers);
     let mut swaps = 0;
-    let answer = loop {
+    loop {
         let Some(level) = plan.next(&diagram.order, target) else {
-            break Answer::Done { swaps };
+            return Answer::Done { swaps };
         };
-        let prepared = match diagram.prepare(level) {
+        let left = || inversions(&diagram.order, target);
+        let prepared = match diagram.prepare(level, held) {
             Ok(prepared) => prepared,
-            Err(lack) => {
-                let left = inversions(&diagram.order, target);
-                break Answer::Stuck { swaps, left, lack };
+            Err(Hindrance::NoRoom(lack)) => {
+                let left = left();
+                return Answer::Stuck { swaps, left, lack };
+            }
+            Err(Hindrance::LogShort(lack)) => {
+                let left = left();
+                return Answer::Short { swaps, left, lack };
             }
         };
         if swaps == budget {
-            let left = inversions(&diagram.order, target);
-            break Answer::Paused { swaps, left };
+            let left = left();
+            return Answer::Paused { swaps, left };
         }
-        diagram.commit(prepared);
+        diagram.make(prepared, buffers);
         swaps += 1;
-    };
-    diagram.store(buffers);
-    answer
+    }
 }
 
 fn inversions(order: &[u8], target: &[u8]) -> usize {
@@ -171,11 +191,20 @@ fn wanted(order: &[u8], target: &[u8]) -> Vec<usize> {
     order.iter().map(|&v| wanted[v as usize]).collect()
 }
 
-/// The number of used records, or the refusal.
-fn judge(buffers: &Buffers, target: Option<&[u8]>) -> Result<usize, Answer> {
-    let refused = |number: u32, place: usize| Err(Answer::Refused { number, place });
-    let (table, roots, order) = (&buffers.table, &buffers.roots, &buffers.order);
-    let n = order.len();
+/// The same where a log is lent: it is judged after the sizes.
+fn judge_with_log(buffers: &Buffers, target: Option<&[u8]>) -> Result<usize, Answer> {
+    judge_sizes(buffers, target)?;
+    if log::judge(buffers)?.is_some() {
+        return Err(Answer::Refused {
+            number: 15,
+            place: 0,
+        });
+    }
+    judge(buffers, target)
+}
+
+fn judge_sizes(buffers: &Buffers, target: Option<&[u8]>) -> Result<(), Answer> {
+    let (table, roots, n) = (&buffers.table, &buffers.roots, buffers.order.len());
     if !(1..=VARIABLES).contains(&n)
         || target.is_some_and(|target| target.len() != n)
         || table.len() % 8 != 0
@@ -183,8 +212,20 @@ fn judge(buffers: &Buffers, target: Option<&[u8]>) -> Result<usize, Answer> {
         || roots.len() % 2 != 0
         || roots.len() > ROOTS * 2
     {
-        return refused(1, 0);
+        return Err(Answer::Refused {
+            number: 1,
+            place: 0,
+        });
     }
+    Ok(())
+}
+
+/// The number of used records, or the refusal.
+fn judge(buffers: &Buffers, target: Option<&[u8]>) -> Result<usize, Answer> {
+    let refused = |number: u32, place: usize| Err(Answer::Refused { number, place });
+    judge_sizes(buffers, target)?;
+    let (table, roots, order) = (&buffers.table, &buffers.roots, &buffers.order);
+    let n = order.len();
 
     let level = match levels(order) {
         Ok(level) => level,
@@ -363,11 +404,17 @@ impl Diagram {
         diagram
     }
 
-    fn store(&self, buffers: &mut Buffers) {
-        for (record, bytes) in self.records.iter().zip(buffers.table.chunks_exact_mut(8)) {
-            record.store(bytes);
+    /// A swap, in the diagram and in the buffers: the old bytes are logged first.
+    fn make(&mut self, swap: Prepared, buffers: &mut Buffers) {
+        let level = swap.level;
+        let changed = self.commit(swap);
+        log::seal(buffers, &changed, level);
+        for &number in &changed {
+            let bytes = &mut buffers.table[number as usize * 8..][..8];
+            self.records[number as usize].store(bytes);
         }
-        buffers.order.copy_from_slice(&self.order);
+        buffers.order.swap(level, level + 1);
+        log::clear(&mut buffers.log);
     }
 
     fn name(&mut self, reference: u16) {
@@ -395,7 +442,7 @@ impl Diagram {
         }
     }
 
-    fn prepare(&self, level: usize) -> Result<Prepared, Lack> {
+    fn prepare(&self, level: usize, held: usize) -> Result<Prepared, Hindrance> {
         let (x, y) = (self.order[level], self.order[level + 1]);
         let upper = &self.lists[x as usize];
         let (crossing, staying): (Vec<u16>, Vec<u16>) = upper.iter().partition(|&&number| {
@@ -433,11 +480,21 @@ impl Diagram {
             }
         }
         if made.len() > self.free.len() + dying.len() {
-            return Err(Lack {
+            return Err(Hindrance::NoRoom(Lack {
                 level,
                 needed: made.len(),
-                free: self.free.len(),
-            });
+                there: self.free.len(),
+            }));
+        }
+        // What crosses, what dies and the free records that are taken all change;
+        // the pair of levels has an entry too.
+        let needed = crossing.len() + dying.len() + made.len().min(self.free.len()) + 1;
+        if needed > held {
+            return Err(Hindrance::LogShort(Lack {
+                level,
+                needed,
+                there: held,
+            }));
         }
         Ok(Prepared {
             level,
@@ -465,12 +522,13 @@ impl Diagram {
         lower.partition(|&&number| self.records[number as usize].names == lost[number as usize + 2])
     }
 
-    fn commit(&mut self, swap: Prepared) {
+    /// The records that changed, in rising number.
+    fn commit(&mut self, swap: Prepared) -> Vec<u16> {
         let level = swap.level;
         let (x, y) = (self.order[level], self.order[level + 1]);
         self.order.swap(level, level + 1);
         if swap.crossing.is_empty() {
-            return;
+            return Vec::new();
         }
 
         // All old references are let go first: a new record may take the place of
@@ -498,7 +556,8 @@ impl Diagram {
             self.name(high);
             new.push(number);
         }
-        for number in dying {
+        let freed: Vec<u16> = dying.collect();
+        for &number in &freed {
             self.records[number as usize] = Record {
                 variable: FREE,
                 low: 0,
@@ -522,6 +581,7 @@ impl Diagram {
         new.sort();
         self.lists[x as usize] = merged(&swap.staying, &new);
         self.lists[y as usize] = merged(&swap.living, &swap.crossing);
+        merged(&swap.crossing, &merged(&new, &freed))
     }
 }
 

@@ -96,6 +96,13 @@ fn agree(case: &Case, states: &[State]) {
         let count = library::swap(&mut ours, state.level as u32, &mut answer);
         same(count, &answer, ordinary::swap(&mut theirs, state.level));
         assert!(ours == theirs, "the buffers differ after a swap");
+
+        let (mut ours, mut theirs) = (state.cut.clone(), state.cut.clone());
+        let count = library::recover(&mut ours, &mut answer);
+        same(count, &answer, ordinary::recover(&mut theirs));
+        assert!(ours == theirs, "the buffers differ after a recovery");
+        let whole = ours.table == state.buffers.table && ours.order == state.buffers.order;
+        assert!(whole, "a recovery leaves something else than was before");
     }
 
     for plan in Plan::ALL {
@@ -136,10 +143,12 @@ fn agree_on_counts(buffers: &Buffers) {
     }
 }
 
-/// The buffers before some swap of the run, and its upper level.
+/// The buffers before some swap of the run, its upper level, and the buffers as
+/// they are if supply is lost right before the swap's last store.
 struct State {
     buffers: Buffers,
     level: usize,
+    cut: Buffers,
 }
 
 /// One swap in 31 of the run, from the first on.
@@ -147,9 +156,14 @@ fn states(case: &Case) -> Vec<State> {
     let mut states = Vec::new();
     let mut buffers = case.before.clone();
     while let Some(level) = PLAN.next(&buffers.order, &case.target) {
+        let mut cut = buffers.clone();
+        ordinary::swap(&mut cut, level);
+        let seal = cut.log.len() - 16;
+        cut.log[seal] = 0xA5;
         states.push(State {
             buffers: buffers.clone(),
             level,
+            cut,
         });
         ordinary::run(&mut buffers, &case.target, PLAN, 31);
     }
@@ -170,6 +184,8 @@ struct Times {
     within: [f64; 2],
     /// All swaps by one call.
     run: [f64; 2],
+    /// The mean of the same swaps as `swap`, each cut at its end.
+    recover: [f64; 2],
 }
 
 fn measure(case: &Case, states: &[State], repetitions: usize) -> Times {
@@ -177,6 +193,7 @@ fn measure(case: &Case, states: &[State], repetitions: usize) -> Times {
     let mut check = none;
     let mut counts = vec![[f64::INFINITY; 3]; case.before.roots.len() / 2];
     let mut swaps = vec![none; states.len()];
+    let mut recoveries = vec![none; states.len()];
     let mut run = none;
     let mut answer = [0; 6];
     for _ in 0..repetitions {
@@ -184,6 +201,7 @@ fn measure(case: &Case, states: &[State], repetitions: usize) -> Times {
         time_checks(&case.before, [ours, theirs]);
         time_counts(&case.before, &mut counts);
         time_swaps(states, &mut swaps);
+        time_recoveries(states, &mut recoveries);
 
         let [ours, theirs] = &mut run;
         let mut buffers = case.before.clone();
@@ -205,6 +223,7 @@ fn measure(case: &Case, states: &[State], repetitions: usize) -> Times {
         swap: [mean(&swaps, 0), mean(&swaps, 1)],
         within: [within(0), within(1)],
         run,
+        recover: [mean(&recoveries, 0), mean(&recoveries, 1)],
     }
 }
 
@@ -249,6 +268,18 @@ fn time_swaps(states: &[State], swaps: &mut [[f64; 2]]) {
     }
 }
 
+/// The recovery from a cut at the end of each state's swap.
+fn time_recoveries(states: &[State], recoveries: &mut [[f64; 2]]) {
+    let mut answer = [0; 6];
+    for (state, [ours, theirs]) in states.iter().zip(recoveries) {
+        let mut buffers = state.cut.clone();
+        least(ours, || library::recover(&mut buffers, &mut answer));
+        let mut buffers = state.cut.clone();
+        least(theirs, || ordinary::recover(&mut buffers));
+        black_box(&buffers);
+    }
+}
+
 /// The mean of one column.
 fn mean<const COLUMNS: usize>(times: &[[f64; COLUMNS]], column: usize) -> f64 {
     let sum: f64 = times.iter().map(|row| row[column]).sum();
@@ -272,6 +303,7 @@ impl Times {
         row("swap, a call of its own", self.swap);
         row("swap, within the run", self.within);
         row("full run", self.run);
+        row("recover, all of a swap", self.recover);
     }
 }
 

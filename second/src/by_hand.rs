@@ -3,8 +3,8 @@
 use crate::hold::{hold_library_to, Expected};
 use crate::input::Input;
 use crate::lists::Lengths;
-use crate::model::{Answer, Question};
-use crate::{depths, edges, label_edges, sheet};
+use crate::model::{answer, Answer, Question};
+use crate::{depths, edges, label_edges, log_sheet, recover_sheet, sheet};
 
 /// A question, and the answer and the buffers afterwards as the rules say.
 #[derive(Clone)]
@@ -36,12 +36,77 @@ impl Case {
             expected: Expected { answer, after },
         }
     }
+
+    /// A swap or a run of buffers without a log: with one that is long enough,
+    /// and with what that must be afterwards.
+    pub fn logged(
+        name: &'static str,
+        input: Input,
+        question: Question,
+        answer: Answer,
+        after: Input,
+    ) -> Case {
+        let input = input.with_enough_log();
+        let log = match swaps(answer) {
+            0 => input.log.clone(),
+            1 => log_of_one_swap(&input, &after),
+            _ => log_of_some_swaps(&input, &question),
+        };
+        Case::changed(name, input, question, answer, after.with_log(log))
+    }
+}
+
+fn swaps(answer: Answer) -> u32 {
+    match answer {
+        Answer::Made => 1,
+        Answer::Done { swaps, .. }
+        | Answer::Paused { swaps, .. }
+        | Answer::Stuck { swaps, .. }
+        | Answer::OutOfLog { swaps, .. } => swaps,
+        _ => 0,
+    }
+}
+
+/// Written into an empty log, from the buffers before and after it, which are
+/// made by hand.
+fn log_of_one_swap(before: &Input, after: &Input) -> Vec<u8> {
+    let (old, new) = (before.table.chunks(8), after.table.chunks(8));
+    let mut entries = Vec::new();
+    for (number, (old, new)) in old.zip(new).enumerate() {
+        if old != new {
+            let (low, high) = ((number % 256) as u8, (number / 256) as u8);
+            entries.push([&[0, 0, low, high], old, &[0; 4]].concat());
+        }
+    }
+    let mut levels = before.order.iter().zip(&after.order);
+    let level = levels.position(|(old, new)| old != new);
+    let level = level.expect("a swap exchanges two levels");
+    let [x, y] = [before.order[level], before.order[level + 1]];
+    entries.push([&[0, 1, level as u8, 0, x, y][..], &[0; 10]].concat());
+
+    let (low, high) = ((entries.len() % 256) as u8, (entries.len() / 256) as u8);
+    let mut log = before.log.clone();
+    let place_of_seal = log.len() - 16;
+    log[..16 * entries.len()].copy_from_slice(&entries.concat());
+    log[place_of_seal + 2] = low;
+    log[place_of_seal + 3] = high;
+    log
+}
+
+/// Of several swaps the log shows the last, which no case writes out: here, and
+/// of the log alone, the model is asked.
+fn log_of_some_swaps(before: &Input, question: &Question) -> Vec<u8> {
+    let mut after = before.clone();
+    answer(&mut after, question);
+    after.log
 }
 
 pub fn cases() -> Vec<Case> {
     [
         edges::cases(),
         sheet::cases(),
+        log_sheet::cases(),
+        recover_sheet::cases(),
         depths::cases(),
         label_edges::cases(),
     ]
@@ -98,6 +163,7 @@ pub fn input(table: &[Bytes], roots: &[u16], order: &[u8]) -> Input {
             .flat_map(|root| [(root % 256) as u8, (root / 256) as u8])
             .collect(),
         order: order.to_vec(),
+        ..Input::default()
     }
 }
 
@@ -127,8 +193,7 @@ pub fn chain_of(order: [u8; 6], roots: &[u16]) -> Input {
 
 #[cfg(test)]
 mod tests {
-    use super::cases;
-    use crate::model::answer;
+    use super::{answer, cases};
 
     #[test]
     fn the_model_gives_the_answers_made_by_hand() {

@@ -2,14 +2,18 @@
 
 pub mod check;
 pub mod count;
+pub mod cuts;
 pub mod label;
 pub mod program;
 mod program_labels;
 pub mod read;
+pub mod recover;
 pub mod repeats;
 pub mod run;
 pub mod show;
+pub mod stores;
 pub mod swap;
+mod with_log;
 
 use crate::counts_kept::counts_kept;
 use crate::hold::{hold_library_to, Expected};
@@ -68,6 +72,8 @@ fn name(answer: Answer) -> String {
         Answer::Part { .. } => "not empty".to_string(),
         Answer::Made => "made".to_string(),
         Answer::NoRoom(_) | Answer::Stuck { .. } => "no room".to_string(),
+        Answer::LogShort(_) | Answer::OutOfLog { .. } => "log short".to_string(),
+        Answer::PutBack { .. } => "put back".to_string(),
         Answer::Done { .. } => "done".to_string(),
         Answer::Paused { .. } => "paused".to_string(),
         Answer::Label(None) => "no label".to_string(),

@@ -5,6 +5,7 @@ use crate::labels::List;
 use crate::layout::{RECORD_BYTES, ROOT_BYTES};
 use crate::library;
 use crate::lists::{Lengths, Lists};
+use crate::log::LOG_RECORD_BYTES;
 use crate::model::{Answer, Question};
 
 /// What a call must answer, and the buffers as it must leave them.
@@ -30,6 +31,12 @@ fn numbers(answer: Answer) -> Vec<u32> {
             number(lack.needed),
             number(lack.free),
         ],
+        Answer::LogShort(short) => vec![
+            102,
+            number(short.level),
+            number(short.needed),
+            number(short.held),
+        ],
         Answer::Done { swaps, left } => vec![0, swaps, number(left)],
         Answer::Paused { swaps, left } => vec![101, swaps, number(left)],
         Answer::Stuck { swaps, left, lack } => vec![
@@ -40,6 +47,14 @@ fn numbers(answer: Answer) -> Vec<u32> {
             number(lack.needed),
             number(lack.free),
         ],
+        Answer::OutOfLog { swaps, left, short } => vec![
+            102,
+            swaps,
+            number(left),
+            number(short.level),
+            number(short.needed),
+            number(short.held),
+        ],
         Answer::Label(None) => vec![0, 0, 0],
         Answer::Label(Some(label)) => {
             let list = match label.list {
@@ -48,6 +63,7 @@ fn numbers(answer: Answer) -> Vec<u32> {
             };
             vec![list, number(label.offset), number(label.length)]
         }
+        Answer::PutBack { entries } => vec![0, number(entries)],
     }
 }
 
@@ -111,16 +127,19 @@ pub fn hold_library_to(
     Ok(())
 }
 
-/// The buffers, a group of digits for each record, root and variable.
+/// The buffers, a group of digits for each record, root, variable and record of
+/// the log.
 pub fn hex(input: &Input) -> String {
     format!(
-        "table ({} bytes):{}\nroots ({} bytes):{}\norder ({} bytes):{}",
+        "table ({} bytes):{}\nroots ({} bytes):{}\norder ({} bytes):{}\nlog ({} bytes):{}",
         input.table.len(),
         groups(&input.table, RECORD_BYTES),
         input.roots.len(),
         groups(&input.roots, ROOT_BYTES),
         input.order.len(),
-        groups(&input.order, 1)
+        groups(&input.order, 1),
+        input.log.len(),
+        groups(&input.log, LOG_RECORD_BYTES)
     )
 }
 

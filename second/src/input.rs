@@ -1,6 +1,7 @@
-//! The three buffers of one comparison, owned, and what fills or alters them.
+//! The four buffers of one comparison, owned, and what fills or alters them.
 
 use crate::layout::{Record, RecordNumber, Reference, Store, Variable, FREE_RECORD, RECORD_BYTES};
+use crate::log::{empty_log, MOST_LOG_RECORDS};
 
 /// Empty by default: what isn't asked of a store has none.
 #[derive(Clone, Debug, Default, PartialEq, Eq)]
@@ -8,16 +9,29 @@ pub struct Input {
     pub table: Vec<u8>,
     pub roots: Vec<u8>,
     pub order: Vec<u8>,
+    pub log: Vec<u8>,
 }
 
 impl Input {
-    /// Free records only, no roots.
+    /// Free records only, no roots and no log.
     pub fn free(records: usize, order: Vec<u8>) -> Input {
         Input {
             table: FREE_RECORD.repeat(records),
-            roots: Vec::new(),
             order,
+            ..Input::default()
         }
+    }
+
+    /// With another log, or with its first one.
+    pub fn with_log(self, log: Vec<u8>) -> Input {
+        Input { log, ..self }
+    }
+
+    /// With an empty log that is short for no swap: it holds an entry for every
+    /// record and one for the pair, or as many as a log can hold.
+    pub fn with_enough_log(self) -> Input {
+        let records = self.store().record_count() + 2;
+        self.with_log(empty_log(records.min(MOST_LOG_RECORDS)))
     }
 
     pub fn store(&self) -> Store<'_> {

@@ -8,6 +8,7 @@ use std::collections::{HashMap, HashSet};
 use crate::hold::hex;
 use crate::input::Input;
 use crate::layout::{RecordNumber, Reference, Variable, MOST_RECORDS};
+use crate::log_kept::leads_back;
 use crate::model::{answer, Answer, Question};
 use crate::plans::{is_inversion, left, Plan};
 use crate::random::Random;
@@ -96,6 +97,7 @@ pub fn run_keeps(
 ) -> Result<usize, String> {
     let mut took_dying = 0;
     let mut state = before.clone();
+    let mut previous = None;
     for _ in 0..swaps {
         let Some(level) = (plan.next)(&state.order, target) else {
             return Err(report("a run swaps beyond its target", before));
@@ -112,10 +114,16 @@ pub fn run_keeps(
             return Err(report("left does not fall by one", &state));
         }
         took_dying += usize::from(made.taken > 0);
+        previous = Some(state);
         state = made.after;
     }
-    if state != *after {
+    if state.store() != after.store() {
         return Err(report("a run is not its swaps", before));
+    }
+    match previous {
+        None if before.log != after.log => return Err(report("no swap is logged", after)),
+        None => {}
+        Some(previous) => leads_back(&previous, after)?,
     }
     if after.order == target && swaps as usize != left(&before.order, target) {
         return Err(report(

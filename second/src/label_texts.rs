@@ -333,6 +333,7 @@ mod tests {
             table,
             roots,
             order,
+            ..Input::default()
         };
         let wanted = Answer::Accepted { used: 4_096 };
         assert_eq!(answer(&mut input, &Question::Check), wanted);

@@ -84,7 +84,7 @@ impl Record {
 
 /// The buffers lent by the caller. The methods below `n` speak of whole
 /// records and roots: bytes left over at an end are no business of theirs.
-#[derive(Clone, Copy)]
+#[derive(Clone, Copy, PartialEq, Eq)]
 pub struct Store<'a> {
     pub table: &'a [u8],
     pub roots: &'a [u8],

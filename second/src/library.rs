@@ -7,7 +7,7 @@ use std::process::{Child, ChildStdin, ChildStdout, Stdio};
 use std::sync::{Mutex, OnceLock};
 
 use crate::input::Input;
-use crate::lists::{Lengths, Lists};
+use crate::lists::{Lengths, Lists, NUMBERS};
 use crate::machine::command;
 use crate::model::Question;
 
@@ -49,9 +49,51 @@ pub fn ask(
 ) -> Result<usize, String> {
     let library = LIBRARY.get().ok_or("the library isn't started")?;
     let mut library = library.lock().expect("nobody else asks it");
-    put(&mut library, input, question, lists, lengths)
+    put(&mut library, 0, input, question, lists, lengths)
         .and_then(|()| taken(&mut library, input, question, lists))
         .map_err(|error| format!("the library doesn't answer: {error}"))
+}
+
+/// Added to the entry where the stores of a call are to be told.
+const WATCHED: u32 = 256;
+
+/// A byte that the library has changed, by which of its stores, and where in
+/// table, order and log, one after the other.
+#[derive(Clone, Copy, Debug)]
+pub struct Change {
+    pub store: u32,
+    pub position: usize,
+    pub byte: u8,
+}
+
+/// Asks the question with lists that are long enough; what the library changed,
+/// in turn. The input is what it left.
+pub fn watch(input: &mut Input, question: &Question) -> Result<Vec<Change>, String> {
+    let library = LIBRARY.get().ok_or("the library isn't started")?;
+    let mut library = library.lock().expect("nobody else asks it");
+    let (mut question, mut lists) = (question.clone(), Lists::untouched());
+    let lengths = Lengths {
+        numbers: NUMBERS,
+        counts: 0,
+        shares: 0,
+    };
+    put(&mut library, WATCHED, input, &mut question, &lists, lengths)
+        .and_then(|()| taken(&mut library, input, &mut question, &mut lists))
+        .and_then(|_| changes(&mut library.answers))
+        .map_err(|error| format!("the library doesn't answer: {error}"))
+}
+
+fn changes(answers: &mut impl Read) -> io::Result<Vec<Change>> {
+    let count = u32::from_le_bytes(bytes(answers)?);
+    let mut number = || bytes(answers).map(u32::from_le_bytes);
+    let mut change = || -> io::Result<Change> {
+        Ok(Change {
+            store: number()?,
+            position: number()? as usize,
+            byte: number()? as u8,
+        })
+    };
+    (0..count).map(|_| change()).collect()
 }
 
 /// The entry's place among the entries, the number that it is asked for, and the
@@ -65,26 +107,36 @@ fn asked(question: &Question) -> [u32; 3] {
         Question::Run { plan, budget, .. } => [4, *plan, *budget],
         Question::Count { position } => [5, *position, 0],
         Question::Label { variable, .. } => [6, *variable, 0],
+        Question::Recover => [7, 0, 0],
     }
 }
 
-/// The four buffers of a question: those of the store and one more; or both
-/// lists of labels, and nothing else.
-fn buffers<'a>(input: &'a mut Input, question: &'a mut Question) -> [&'a mut [u8]; 4] {
+/// The five buffers of a question: those of the store, one more, and the log; or
+/// both lists of labels, and nothing else.
+fn buffers<'a>(input: &'a mut Input, question: &'a mut Question) -> [&'a mut [u8]; 5] {
+    let log: &mut [u8] = match question.has_log() {
+        true => &mut input.log,
+        false => &mut [],
+    };
     let more: &mut [u8] = match question {
-        Question::Label { site, factory, .. } => return [site, factory, &mut [], &mut []],
+        Question::Label { site, factory, .. } => {
+            return [site, factory, &mut [], &mut [], &mut []];
+        }
         Question::Read { inputs, .. } => inputs,
         Question::Run { target, .. } => target,
         Question::Check
         | Question::Show { .. }
         | Question::Swap { .. }
-        | Question::Count { .. } => &mut [],
+        | Question::Count { .. }
+        | Question::Recover => &mut [],
     };
-    [&mut input.table, &mut input.roots, &mut input.order, more]
+    let [table, roots, order] = [&mut input.table, &mut input.roots, &mut input.order];
+    [table, roots, order, more, log]
 }
 
 fn put(
     library: &mut Library,
+    watched: u32,
     input: &mut Input,
     question: &mut Question,
     lists: &Lists,
@@ -92,11 +144,21 @@ fn put(
 ) -> io::Result<()> {
     let [entry, number, budget] = asked(question);
     let buffers = buffers(input, question);
-    let [first, second, third, fourth] = buffers.each_ref().map(|buffer| buffer.len() as u32);
+    let [first, second, third, fourth, log] = buffers.each_ref().map(|buffer| buffer.len() as u32);
     let [numbers, counts, shares] =
         [lengths.numbers, lengths.counts, lengths.shares].map(|length| length as u32);
     let head = [
-        entry, first, second, third, fourth, number, budget, numbers, counts, shares,
+        entry + watched,
+        first,
+        second,
+        third,
+        fourth,
+        log,
+        number,
+        budget,
+        numbers,
+        counts,
+        shares,
     ];
     for number in head.iter().chain(&lists.numbers) {
         library.questions.write_all(&number.to_le_bytes())?;

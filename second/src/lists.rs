@@ -72,7 +72,9 @@ impl Lengths {
             shares: 0,
         };
         match question {
-            Question::Check | Question::Read { .. } | Question::Show { .. } => without_places(2),
+            Question::Check | Question::Read { .. } | Question::Show { .. } | Question::Recover => {
+                without_places(2)
+            }
             Question::Label { .. } => without_places(3),
             Question::Swap { .. } => without_places(4),
             Question::Run { .. } => without_places(6),

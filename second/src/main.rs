@@ -1,17 +1,19 @@
 //! The second program: the relay's rules read once more, independently of the
 //! library, and both compared on cases made by hand and at random.
 //!
-//! `layout`, `refusals`, `value`, `count`, `share`, `swap`, `plans`, `slice`,
-//! `labels`, `model` and `printed` are the reading of the rules, and `kept`
-//! holds that reading to what it must keep. `library` is the other side, in a
-//! process of its own, `hold` and `compare` ask both, and `counts_kept` holds
-//! the library to what it must keep. The cases made by hand are in `edges`,
-//! `sheet`, `depths`, `label_edges`, `texts` and `label_texts`; the rest makes
-//! random ones.
+//! `layout`, `log`, `refusals`, `log_refusals`, `value`, `count`, `share`,
+//! `swap`, `commit`, `recover`, `steps`, `plans`, `slice`, `labels`, `model` and
+//! `printed` are the reading of the rules, and `kept` and `log_kept` hold that
+//! reading to what it must keep. `library` is the other side, in a process of
+//! its own, `hold` and `compare` ask both, and `counts_kept` holds the library to
+//! what it must keep. The cases made by hand are in `edges`, `sheet`,
+//! `log_sheet`, `recover_sheet`, `depths`, `label_edges`, `texts` and
+//! `label_texts`; the rest makes random ones.
 
 mod bucket;
 mod by_hand;
 mod chains;
+mod commit;
 mod compare;
 mod count;
 mod counts_kept;
@@ -30,12 +32,20 @@ mod labels;
 mod layout;
 mod library;
 mod lists;
+mod log;
+mod log_faults;
+mod log_kept;
+mod log_refusals;
+mod log_sheet;
+mod logs;
 mod machine;
 mod model;
 mod plans;
 mod possible;
 mod printed;
 mod random;
+mod recover;
+mod recover_sheet;
 mod refusals;
 mod repeats;
 mod sample;
@@ -43,6 +53,7 @@ mod seats;
 mod share;
 mod sheet;
 mod slice;
+mod steps;
 mod swap;
 mod tally;
 mod texts;
@@ -57,9 +68,9 @@ use crate::model::Question;
 use crate::tally::Tally;
 
 const USAGE: &str = "\
-usage: compare library ASK [check | read | show | swap | run | count | repeats | label] [number of random questions]
+usage: compare library ASK [check | read | show | swap | run | count | repeats | label | recover | cuts | stores] [number of random questions]
        compare program TRIP [number of random runs]
-ASK: the program of ask.c, linked with the library; without a word after it: all eight.
+ASK: the program of ask.c, linked with the library; without a word after it: all eleven.
 RELAY_RUN names x86_64/run where these programs can't be run by themselves.";
 
 /// A comparison that a word asks for.
@@ -71,7 +82,7 @@ struct Part {
     compare: fn(u64) -> Result<Tally, String>,
 }
 
-const PARTS: [Part; 8] = [
+const PARTS: [Part; 11] = [
     Part {
         word: "check",
         is_asked_by: Some(|question| matches!(question, Question::Check)),
@@ -119,6 +130,24 @@ const PARTS: [Part; 8] = [
         is_asked_by: Some(|question| matches!(question, Question::Label { .. })),
         questions: compare::label::QUESTIONS,
         compare: compare::label::compare,
+    },
+    Part {
+        word: "recover",
+        is_asked_by: Some(|question| matches!(question, Question::Recover)),
+        questions: compare::recover::QUESTIONS,
+        compare: compare::recover::compare,
+    },
+    Part {
+        word: "cuts",
+        is_asked_by: None,
+        questions: compare::cuts::QUESTIONS,
+        compare: compare::cuts::compare,
+    },
+    Part {
+        word: "stores",
+        is_asked_by: None,
+        questions: compare::stores::QUESTIONS,
+        compare: compare::stores::compare,
     },
 ];
 

@@ -1,18 +1,20 @@
-//! What may be asked: the seven operations, and the answers to them.
+//! What may be asked: the eight operations, and the answers to them.
 
+use crate::commit::{logged_swap, Obstacle, Short};
 use crate::count;
 use crate::input::Input;
 use crate::labels::{label, Label};
 use crate::layout::RECORD_BYTES;
 use crate::plans;
-use crate::refusals::{first_refusal, Arguments, Refusal};
+use crate::recover::recover;
+use crate::refusals::{first_refusal, first_refusal_of_recovery, Arguments, Refusal};
 use crate::share::share_bits;
 use crate::slice::slice;
-use crate::swap::{swap, Lack};
+use crate::swap::Lack;
 use crate::value::value;
 
 /// What is asked of a table, its roots and order; a label is asked for without
-/// them.
+/// them. Swap, Run and Recover have the log besides, and Recover no roots.
 #[derive(Clone, Debug, PartialEq, Eq)]
 pub enum Question {
     Check,
@@ -41,6 +43,16 @@ pub enum Question {
         factory: Vec<u8>,
         variable: u32,
     },
+    Recover,
+}
+
+impl Question {
+    pub fn has_log(&self) -> bool {
+        matches!(
+            self,
+            Question::Swap { .. } | Question::Run { .. } | Question::Recover
+        )
+    }
 }
 
 #[derive(Clone, Copy, Debug, PartialEq, Eq)]
@@ -62,6 +74,7 @@ pub enum Answer {
     /// Swap.
     Made,
     NoRoom(Lack),
+    LogShort(Short),
     /// Run.
     Done {
         swaps: u32,
@@ -76,6 +89,11 @@ pub enum Answer {
         left: usize,
         lack: Lack,
     },
+    OutOfLog {
+        swaps: u32,
+        left: usize,
+        short: Short,
+    },
     /// Count: the share is the bits of a double.
     Counted {
         count: u64,
@@ -83,6 +101,10 @@ pub enum Answer {
     },
     /// Label: none where the part is empty.
     Label(Option<Label>),
+    /// Recover, with the number of entries.
+    PutBack {
+        entries: usize,
+    },
 }
 
 const EMPTY_PART: Answer = Answer::Part {
@@ -93,7 +115,7 @@ const EMPTY_PART: Answer = Answer::Part {
 /// The answer; the input becomes what it is afterwards. Where it is a refusal,
 /// that is what it was before.
 pub fn answer(input: &mut Input, question: &Question) -> Answer {
-    let refusal = arguments(question).and_then(|arguments| first_refusal(input.store(), arguments));
+    let refusal = refusal(input, question);
     match (question, refusal) {
         // Show has no number to tell: its part is empty instead.
         (Question::Show { .. }, Some(_)) => EMPTY_PART,
@@ -119,15 +141,29 @@ pub fn answer(input: &mut Input, question: &Question) -> Answer {
             },
             None,
         ) => Answer::Label(label(site, factory, *variable)),
+        (Question::Recover, None) => Answer::PutBack {
+            entries: recover(input),
+        },
     }
 }
 
-/// The arguments that each operation has got; none for Label, which makes no
-/// check.
-fn arguments(question: &Question) -> Option<Arguments<'_>> {
-    let none = Arguments::default();
-    let arguments = match question {
-        Question::Check => none,
+/// Label makes no check, Recover only those that it needs itself.
+fn refusal(input: &Input, question: &Question) -> Option<Refusal> {
+    match question {
+        Question::Label { .. } => None,
+        Question::Recover => first_refusal_of_recovery(input.store(), &input.log),
+        _ => first_refusal(input.store(), arguments(input, question)),
+    }
+}
+
+/// The arguments that each operation has got beside table, roots and order.
+fn arguments<'a>(input: &'a Input, question: &'a Question) -> Arguments<'a> {
+    let none = Arguments {
+        log: question.has_log().then_some(&input.log),
+        ..Arguments::default()
+    };
+    match question {
+        Question::Check | Question::Label { .. } | Question::Recover => none,
         Question::Read { position, inputs } => Arguments {
             position: Some(*position),
             inputs: Some(inputs),
@@ -146,9 +182,7 @@ fn arguments(question: &Question) -> Option<Arguments<'_>> {
             plan: Some(*plan),
             ..none
         },
-        Question::Label { .. } => return None,
-    };
-    Some(arguments)
+    }
 }
 
 fn check(input: &Input) -> Answer {
@@ -173,12 +207,14 @@ fn show(input: &Input, position: u32) -> Answer {
     }
 }
 
-/// No room changes nothing either: the swap was made on another table.
+/// No room and log short change nothing either: the swap was made on other
+/// buffers.
 fn swap_once(input: &mut Input, level: u32) -> Answer {
-    match swap(input, level as usize) {
-        Err(lack) => Answer::NoRoom(lack),
-        Ok(made) => {
-            *input = made.after;
+    match logged_swap(input, level as usize) {
+        Err(Obstacle::NoRoom(lack)) => Answer::NoRoom(lack),
+        Err(Obstacle::LogShort(short)) => Answer::LogShort(short),
+        Ok(after) => {
+            *input = after;
             Answer::Made
         }
     }

@@ -3,6 +3,7 @@
 use crate::input::Input;
 use crate::labels;
 use crate::layout::RecordNumber;
+use crate::log::{empty_log, MOST_LOG_RECORDS};
 use crate::model::{answer, Answer, Question};
 use crate::refusals::Refusal;
 
@@ -45,6 +46,8 @@ impl Run {
             table: table.unwrap_or_default(),
             roots: roots.unwrap_or_default(),
             order: order.unwrap_or_default(),
+            // Its own, and as long as a log can be.
+            log: empty_log(MOST_LOG_RECORDS),
         };
         let plan = plan_number(plan.as_deref());
         let question = Question::Run {
@@ -141,6 +144,10 @@ fn outcome(answer: Answer) -> String {
             "no room swaps {swaps} left {left} level {} needed {} free {}",
             lack.level, lack.needed, lack.free
         ),
+        Answer::OutOfLog { swaps, left, short } => format!(
+            "log short swaps {swaps} left {left} level {} needed {} held {}",
+            short.level, short.needed, short.held
+        ),
         other => unreachable!("a run with the largest budget is never answered {other:?}"),
     }
 }
@@ -159,4 +166,30 @@ fn words(first: &str, rest: impl Iterator<Item = String>) -> Line {
         line.push_str(&word);
     }
     line.into_bytes()
+}
+
+#[cfg(test)]
+mod tests {
+    use super::outcome;
+    use crate::commit::Short;
+    use crate::model::Answer;
+
+    /// No store of 4,096 records has such a swap: at most one of them would stay
+    /// as it is, so that 64 roots and one record above, with its two references,
+    /// name all records that cross, and each of these changes four more at most.
+    #[test]
+    fn the_line_of_a_log_that_is_short() {
+        let short = Short {
+            level: 0,
+            needed: 4,
+            held: 3,
+        };
+        let answer = Answer::OutOfLog {
+            swaps: 0,
+            left: 1,
+            short,
+        };
+        let line = "log short swaps 0 left 1 level 0 needed 4 held 3";
+        assert_eq!(outcome(answer), line);
+    }
 }

@@ -6,6 +6,7 @@ use crate::layout::{
     Record, RecordNumber, Reference, Store, MOST_RECORDS, MOST_ROOTS, MOST_VARIABLES, RECORD_BYTES,
     ROOT_BYTES,
 };
+use crate::log_refusals::{log_outside, still_sealed};
 use crate::plans;
 
 #[derive(Clone, Copy, Debug, PartialEq, Eq)]
@@ -18,6 +19,7 @@ pub struct Refusal {
 /// an argument that it doesn't have.
 #[derive(Clone, Copy, Default)]
 pub struct Arguments<'a> {
+    pub log: Option<&'a [u8]>,
     pub target: Option<&'a [u8]>,
     pub plan: Option<u32>,
     pub position: Option<u32>,
@@ -29,10 +31,13 @@ pub struct Arguments<'a> {
 /// speaks of an argument passes where the operation doesn't have it.
 type Check = fn(Store, Arguments) -> Option<usize>;
 
-/// In the order in which they are made: that of their numbers, but for 13,
-/// which comes after 9 (docs/RULES.md, 2.2).
-const CHECKS: [(u32, Check); 13] = [
+/// In the order in which they are made: that of their numbers, but for those of
+/// the log, which come after 1, and for 13, which comes after 9 (docs/RULES.md,
+/// 2.2).
+const CHECKS: [(u32, Check); 15] = [
     (1, length_outside),
+    (14, |store, arguments| log_outside(store, arguments.log?)),
+    (15, |_, arguments| still_sealed(arguments.log?)),
     (2, |store, _| not_a_permutation(store.order)),
     (3, |_, arguments| not_a_permutation(arguments.target?)),
     (4, |store, _| record_malformed(store)),
@@ -56,7 +61,25 @@ const CHECKS: [(u32, Check); 13] = [
 /// Each goes over its whole buffer before the next: the first check that says
 /// no gives its number and place.
 pub fn first_refusal(store: Store, arguments: Arguments) -> Option<Refusal> {
-    CHECKS.iter().find_map(|&(number, check)| {
+    first_of(&CHECKS, store, arguments)
+}
+
+/// Table and order may be half of one swap and half of another, and there are no
+/// roots: only 1 and 14 are made, the first two.
+pub fn first_refusal_of_recovery(store: Store, log: &[u8]) -> Option<Refusal> {
+    let store = Store {
+        roots: &[],
+        ..store
+    };
+    let arguments = Arguments {
+        log: Some(log),
+        ..Arguments::default()
+    };
+    first_of(&CHECKS[..2], store, arguments)
+}
+
+fn first_of(checks: &[(u32, Check)], store: Store, arguments: Arguments) -> Option<Refusal> {
+    checks.iter().find_map(|&(number, check)| {
         let place = check(store, arguments)?;
         Some(Refusal { number, place })
     })

@@ -60,7 +60,7 @@ fn show(name: &'static str, input: Input, position: u32, part: [usize; 2]) -> Ca
 }
 
 fn swap(name: &'static str, input: Input, level: u32, answer: Answer, after: Input) -> Case {
-    Case::changed(name, input, Question::Swap { level }, answer, after)
+    Case::logged(name, input, Question::Swap { level }, answer, after)
 }
 
 fn count(name: &'static str, input: Input, position: u32, answer: Answer) -> Case {
@@ -82,7 +82,7 @@ fn run_by(
         plan,
         budget,
     };
-    Case::changed(name, input, question, answer, after)
+    Case::logged(name, input, question, answer, after)
 }
 
 /// By Bring Up; `by_every_plan` makes the others of it.

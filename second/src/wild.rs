@@ -35,6 +35,7 @@ fn bytes(random: &mut Random) -> Input {
         table: random_bytes(100, 40_000, random),
         roots: random_bytes(20, 200, random),
         order: random_bytes(8, 70, random),
+        ..Input::default()
     }
 }
 
@@ -58,6 +59,7 @@ fn bytes_of_right_lengths(random: &mut Random) -> Input {
         } else {
             (0..n).map(|_| random.below(n + 1) as u8).collect()
         },
+        ..Input::default()
     }
 }
 

@@ -1,15 +1,15 @@
 -- Demand 1: every entry answers on any bytes, with one outcome. A refusal has the number of the first check that fails and the first place where it
 -- does, and changes nothing. There is no room exactly where more records would be used afterwards than the table has, which is where more are needed
--- than are free or die; and then nothing changes either.
+-- than are free or die; the log is short exactly where there is room, but more entries are needed than it holds; and then nothing changes either.
 --
--- `checkOf`, `readOf`, `partOf`, `swapOf` and `runOf` are the outcomes that the contracts of the entries cite. t is the table, r the roots, o the order
--- and g the target, each as the list of its bytes. An entry's checks are a list: `checkStages`, `readStages`, `swapStages`, `runStages`.
--- `FailsFirst` of such a list, with k and p: check k fails at place p, at no place before it, and every check before k passes everywhere.
--- Of Count and of Label the same is said in `Counted` and in `Labelled`.
+-- `checkOf`, `readOf`, `partOf`, `swapOf`, `runOf` and `recoverOf` are the outcomes that the contracts of the entries cite. t is the table, r the roots, o the
+-- order and g the target, each as the list of its bytes; a state s is a table, an order and a log. An entry's checks are a list: `checkStages`, `readStages`,
+-- `swapStages`, `runStages`, `recoverStages`. `FailsFirst` of such a list, with k and p: check k fails at place p, at no place before it, and every check
+-- before k passes everywhere. Of Count and of Label the same is said in `Counted` and in `Labelled`.
 use Prim.Native.Nat.{ℕ, _+_, _≤_, _<_}
 use mathlib.Core.Bool.{Bool}
-use mathlib.Core.List.{List}
-use mathlib.Core.Path.{_≡_, ap, sym, _∙_}
+use mathlib.Core.List.{List, []}
+use mathlib.Core.Path.{_≡_, refl, ap, sym, _∙_}
 use lib.ListN.{length}
 use Rattle.lists.specs.Apart.{apart}
 use Rattle.lists.specs.Count.{bit}
@@ -35,20 +35,28 @@ use Rattle.reading.specs.declared.ReadAnswer.{ReadAnswer}
 use Rattle.reading.specs.declared.ReadAnswer.the-variants as reads
 use Rattle.swap_rules.specs.Swap.{xAt, yAt}
 use Rattle.swap_preparing.specs.Table.{freeIn}
-use Rattle.swaps.specs.Outcome.{lack, isClear, swapStages, swapOf, SwapOutcome}
+use Rattle.undo.specs.Stores.{State}
+use Rattle.undo.specs.Calls.{Call, Ended}
+use Rattle.undo.specs.Log.{entriesHeld}
+use Rattle.swaps.specs.Outcome.{lack, short, entriesFor, isClear, swapStages, swapCall, swapOf, SwapOutcome}
 use Rattle.swaps.specs.Entry as swap
-use Rattle.swaps.specs.Entry.{Needed, Dying}
+use Rattle.swaps.specs.Entry.{Needed, Dying, HasRoom, LacksRoom, AbleOf}
 use Rattle.swaps.specs.Bytes.{outnumbers, lacks-slots}
 use Rattle.swaps.specs.declared.Lack.{Lack}
+use Rattle.swaps.specs.declared.Short.{Short}
 use Rattle.swaps.specs.declared.SwapAnswer.{SwapAnswer}
 use Rattle.swaps.specs.declared.SwapAnswer.the-variants as swaps
 use Rattle.slices.specs.OneSwap.{plainSwap}
-use Rattle.slices.specs.Run.{Ran, runStages, runOf, RunOutcome}
+use Rattle.slices.specs.Run.{runStages, runOf, RunOutcome}
 use Rattle.slices.specs.Answers.{swapsIn}
 use Rattle.slices.specs.Theorems as run
 use Rattle.slices.specs.Theorems.{Startable}
 use Rattle.slices.specs.declared.RunAnswer.{RunAnswer}
 use Rattle.slices.specs.declared.RunAnswer.the-variants as runs
+use Rattle.recovery.specs.Recover.{recoverStages, recoverCall, recoverOf, RecoverOutcome}
+use Rattle.recovery.specs.Theorems as recover
+use Rattle.recovery.specs.declared.RecoverAnswer.{RecoverAnswer}
+use Rattle.recovery.specs.declared.RecoverAnswer.the-variants as recovers
 use Rattle.demands.specs.Exactly.{Exactly}
 
 module _ (t r o : List ℕ) where
@@ -94,88 +102,159 @@ module _ (t r o : List ℕ) where
         → ShowOutcome t r o position table q b → (p ≡ q) × (a ≡ b)
     show-one = show.show-one t r o position
 
-  -- ---- Swap
+-- ---- Swap
 
-  module _ (k : ℕ) where
-    pub swap-refused : (n p : ℕ) → Exactly (swapOf t r o k .answer ≡ swaps.Refused (refusal n p)) (FailsFirst (swapStages t r o k) n p)
-    swap-refused n p = record { wherever = λ f. ap (λ s. s .answer) (swap.swap-refuses t r o k n p f); only = swap.swap-refuses-only t r o k n p }
+module _ (s : State) (r : List ℕ) (k : ℕ) where
+  abbrev t : List ℕ
+  t = s .table
 
-    -- no room exactly for a table that can be used and two of its levels, where more records are needed than are free or die; with the level, needed and free
-    pub swap-no-room : (l : Lack) → Exactly (swapOf t r o k .answer ≡ swaps.NoRoom l)
-        ((Usable t r o × (k + 1 < length o)) × (freeIn t + Dying t r o k < Needed t o k) × (l ≡ lack k (Needed t o k) (freeIn t)))
-    swap-no-room l = record {
-      wherever = λ w. ap (λ s. s .answer) (swap.swap-lacks t r o k (w .0 .0) (w .0 .1) (w .1)) ∙ ap swaps.NoRoom (sym (w .2));
-      only = swap.lacks-only t r o k l;
-    }
+  abbrev o : List ℕ
+  o = s .order
 
-    -- made exactly where they are not more
-    pub swap-made : Exactly (swapOf t r o k .answer ≡ swaps.Made) ((Usable t r o × (k + 1 < length o)) × (Needed t o k ≤ freeIn t + Dying t r o k))
-    swap-made = record {
-      wherever = λ w. ap (λ s. s .answer) (swap.swap-made t r o k (w .0 .0) (w .0 .1) (w .1));
-      only = λ e. let w = swap.made-only t r o k e in (w .0, swap.fits-then t r o k (w .1));
-    }
+  -- the entries that the log holds
+  abbrev held : ℕ
+  held = entriesHeld (s .log)
 
-    -- the other reading of the same: the records used before, plus new, less dying, are more than the table has
-    pub outnumbered : Exactly (freeIn t + Dying t r o k < Needed t o k) (records t + Dying t r o k < used t + Needed t o k)
-    outnumbered = record { wherever = lacks-slots t r (xAt o k) (yAt o k); only = outnumbers t r (xAt o k) (yAt o k) }
+  pub swap-refused : (n p : ℕ) → Exactly (swapOf s r k .answer ≡ swaps.Refused (refusal n p)) (FailsFirst (swapStages t r o (s .log) k) n p)
+  swap-refused n p = record {
+    wherever = λ f. ap (λ (c : Call SwapAnswer). c .answer) (swap.swap-refuses s r k n p f);
+    only = swap.swap-refuses-only s r k n p;
+  }
 
-    -- a swap that isn't made changes nothing
-    pub swap-unchanged : (swapOf t r o k .answer ≡ swaps.Made → ⊥) → (swapOf t r o k .table ≡ t) × (swapOf t r o k .order ≡ o)
-    swap-unchanged = swap.unmade-keeps t r o k
+  -- what isn't refused: a table that can be used, two of its levels, and an empty log of 1 to 4,096 records
+  pub swap-starts : ((f : Refusal) → swapOf s r k .answer ≡ swaps.Refused f → ⊥) → AbleOf s r k
+  swap-starts n = swap.unrefused s r k (swapOf s r k .answer) refl (λ f e. n f e) .0
 
-    pub swap-one : {a b : SwapAnswer} {t₁ t₂ o₁ o₂ : List ℕ} → SwapOutcome t r o k a t₁ o₁ → SwapOutcome t r o k b t₂ o₂ → (a ≡ b) × (t₁ ≡ t₂) × (o₁ ≡ o₂)
-    swap-one = swap.swap-one t r o k
+  -- no room exactly for such a store where more records are needed than are free or die; with the level, needed and free
+  pub swap-no-room : (l : Lack) → Exactly (swapOf s r k .answer ≡ swaps.NoRoom l)
+      (AbleOf s r k × LacksRoom t r o k × (l ≡ lack k (Needed t o k) (freeIn t)))
+  swap-no-room l = record {
+    wherever = λ w.
+        ap (λ (c : Call SwapAnswer). c .answer) (swap.swap-stuck s r k (w .0) (lack k (Needed t o k) (freeIn t)) (swap.lacks-if t r o held k (w .1)))
+        ∙ ap swaps.NoRoom (sym (w .2));
+    only = λ e. let (able, w) = swap.lacks-only s r k l e in let (h, q) = swap.lacks-then t r o held k l w in (able, h, q);
+  }
 
-  -- ---- Run, by the plan with any number
+  -- log short exactly where there is room, but the swap needs more entries than the log holds; with the level, needed and held
+  pub swap-log-short : (l : Short) → Exactly (swapOf s r k .answer ≡ swaps.LogShort l)
+      (AbleOf s r k × HasRoom t r o k × (held < entriesFor t r o k) × (l ≡ short k (entriesFor t r o k) held))
+  swap-log-short l = record {
+    wherever = λ w.
+        ap (λ (c : Call SwapAnswer). c .answer)
+        (swap.swap-short s r k (w .0) (short k (entriesFor t r o k) held) (swap.short-if t r o held k (w .1) (w .2)))
+        ∙ ap swaps.LogShort (sym (w .3));
+    only = λ e. let (able, w) = swap.short-only s r k l e in let (h, n, q) = swap.short-then t r o held k l w in (able, h, n, q);
+  }
 
-  module _ (g : List ℕ) (plan budget : ℕ) where
-    -- the answer and the buffers left
-    abbrev ran : Ran
-    ran = runOf plainSwap plan t r o g budget
+  -- made exactly where there is room and the log holds the entries
+  pub swap-made : Exactly (swapOf s r k .answer ≡ swaps.Made) (AbleOf s r k × HasRoom t r o k × (entriesFor t r o k ≤ held))
+  swap-made = record {
+    wherever = λ w.
+        ap (λ (e : Ended SwapAnswer). e .answer) (swap.swap-clear s r k (w .0) (ap isClear (swap.clear-if-fits t r o held k (w .1) (w .2))));
+    only = λ e. let (able, c) = swap.made-only s r k e in let (h, n) = swap.clear-then t r o held k c in (able, h, n);
+  }
 
-    -- the upper level of the plan's next swap, of the order left
-    abbrev next : ℕ
-    next = planOf plan (ran .order) g
+  -- the other reading of the same: the records used before, plus new, less dying, are more than the table has
+  pub outnumbered : Exactly (LacksRoom t r o k) (records t + Dying t r o k < used t + Needed t o k)
+  outnumbered = record { wherever = lacks-slots t r (xAt o k) (yAt o k); only = outnumbers t r (xAt o k) (yAt o k) }
 
-    pub run-refused : (k p : ℕ) → Exactly (ran .answer ≡ runs.Refused (refusal k p)) (FailsFirst (runStages plainSwap plan t r o g) k p)
-    run-refused k p = record {
-      wherever = λ f. ap (λ w. w .answer) (run.run-refuses plainSwap plan t r o g budget k p f);
-      only = run.run-refuses-only plainSwap plan t r o g budget k p;
-    }
+  -- a swap that isn't made makes no store: refused, without room or with a log too short, it changes no byte
+  pub swap-unchanged : (swapOf s r k .answer ≡ swaps.Made → ⊥) → (swapCall s r k .stores ≡ []) × (swapOf s r k .state ≡ s)
+  swap-unchanged n = (swap.unmade-keeps s r k n, swap.unmade-state s r k n)
 
-    pub run-unchanged : (f : Refusal) → ran .answer ≡ runs.Refused f → (ran .table ≡ t) × (ran .order ≡ o)
-    run-unchanged = run.refused-keeps plainSwap plan t r o g budget
+  pub swap-one : {a b : SwapAnswer} {s₁ s₂ : State} → SwapOutcome s r k a s₁ → SwapOutcome s r k b s₂ → (a ≡ b) × (s₁ ≡ s₂)
+  swap-one = swap.swap-one s r k
 
-    -- what isn't refused: a table that can be used, a target that is a permutation of its variables, and a number that a plan has
-    pub run-starts : ((f : Refusal) → ran .answer ≡ runs.Refused f → ⊥) → Startable plainSwap plan t r o g
-    run-starts = run.run-startable plainSwap plan t r o g budget
+-- ---- Run, by the plan with any number
 
-    -- no room where the order left isn't the target and the plan's next swap needs more records than are free or die; with its level, needed and free
-    pub run-no-room : Startable plainSwap plan t r o g → (ran .order ≡ g → ⊥)
-        → freeIn (ran .table) + Dying (ran .table) r (ran .order) next < Needed (ran .table) (ran .order) next
-        → ran .answer ≡ runs.NoRoom (swapsIn (ran .answer)) (left (ran .order) g) (lack next (Needed (ran .table) (ran .order) next) (freeIn (ran .table)))
-    run-no-room s n h =
-        run.run-stuck plainSwap plan t r o g s budget n (lack next (Needed (ran .table) (ran .order) next) (freeIn (ran .table)))
-        (swap.lacks-if (ran .table) r (ran .order) next h)
+module _ (s : State) (r g : List ℕ) (plan budget : ℕ) where
+  -- the answer and the buffers left
+  abbrev ran : Ended RunAnswer
+  ran = runOf plainSwap plan s r g budget
 
-    -- and only there
-    pub run-no-room-only : (m l : ℕ) (k : Lack) → ran .answer ≡ runs.NoRoom m l k
-        → (ran .order ≡ g → ⊥) × (freeIn (ran .table) + Dying (ran .table) r (ran .order) next < Needed (ran .table) (ran .order) next)
-        × (k ≡ lack next (Needed (ran .table) (ran .order) next) (freeIn (ran .table)))
-    run-no-room-only m l k e =
-        let s = run-starts (λ f q. apart (cc)) in
-        let (n, w) = run.run-lacks plainSwap plan t r o g s budget m l k e in
-        let (h, q) = swap.lacks-then (ran .table) r (ran .order) next k w in
-        (n, h, q)
+  abbrev t′ : List ℕ
+  t′ = ran .state .table
 
-    -- paused only where the order left isn't the target and the plan's next swap fits
-    pub run-paused-only : (m l : ℕ) → ran .answer ≡ runs.Paused m l
-        → (ran .order ≡ g → ⊥) × (Needed (ran .table) (ran .order) next ≤ freeIn (ran .table) + Dying (ran .table) r (ran .order) next)
-    run-paused-only m l e =
-        let s = run-starts (λ f q. apart (cc)) in
-        let (n, w, b) = run.run-paused plainSwap plan t r o g s budget m l e in
-        (n, swap.fits-then (ran .table) r (ran .order) next (ap isClear w))
+  abbrev o′ : List ℕ
+  o′ = ran .state .order
 
-    pub run-one : {a b : RunAnswer} {t₁ t₂ o₁ o₂ : List ℕ}
-        → RunOutcome plainSwap plan t r o g budget a t₁ o₁ → RunOutcome plainSwap plan t r o g budget b t₂ o₂ → (a ≡ b) × (t₁ ≡ t₂) × (o₁ ≡ o₂)
-    run-one = run.run-one plainSwap plan t r o g budget
+  -- the upper level of the plan's next swap, of the order left, and the entries that the log holds
+  abbrev next : ℕ
+  next = planOf plan o′ g
+
+  abbrev held′ : ℕ
+  held′ = entriesHeld (ran .state .log)
+
+  pub run-refused : (k p : ℕ) → Exactly (ran .answer ≡ runs.Refused (refusal k p))
+      (FailsFirst (runStages plainSwap plan (s .table) r (s .order) g (s .log)) k p)
+  run-refused k p = record {
+    wherever = λ f. ap (λ (c : Call RunAnswer). c .answer) (run.run-refuses plainSwap plan s r g budget k p f);
+    only = run.run-refuses-only plainSwap plan s r g budget k p;
+  }
+
+  pub run-unchanged : (f : Refusal) → ran .answer ≡ runs.Refused f → ran .state ≡ s
+  run-unchanged = run.refused-keeps plainSwap plan s r g budget
+
+  -- what isn't refused: a table that can be used, a target that is a permutation of its variables, an empty log, and a number that a plan has
+  pub run-starts : ((f : Refusal) → ran .answer ≡ runs.Refused f → ⊥) → Startable plainSwap plan s r g
+  run-starts = run.run-startable plainSwap plan s r g budget
+
+  -- no room where the order left isn't the target and the plan's next swap needs more records than are free or die; with its level, needed and free
+  pub run-no-room : Startable plainSwap plan s r g → (o′ ≡ g → ⊥) → LacksRoom t′ r o′ next
+      → ran .answer ≡ runs.NoRoom (swapsIn (ran .answer)) (left o′ g) (lack next (Needed t′ o′ next) (freeIn t′))
+  run-no-room a n h =
+      run.run-stuck plainSwap plan s r g a budget n (lack next (Needed t′ o′ next) (freeIn t′)) (swap.lacks-if t′ r o′ held′ next h)
+
+  -- and only there
+  pub run-no-room-only : (m l : ℕ) (k : Lack) → ran .answer ≡ runs.NoRoom m l k
+      → (o′ ≡ g → ⊥) × LacksRoom t′ r o′ next × (k ≡ lack next (Needed t′ o′ next) (freeIn t′))
+  run-no-room-only m l k e =
+      let a = run-starts (λ f q. apart (cc)) in
+      let (n, w) = run.run-lacks plainSwap plan s r g a budget m l k e in
+      let (h, q) = swap.lacks-then t′ r o′ held′ next k w in
+      (n, h, q)
+
+  -- log short where the order left isn't the target, and the plan's next swap has room but needs more entries than the log holds, budget spent or not
+  pub run-log-short : Startable plainSwap plan s r g → (o′ ≡ g → ⊥) → HasRoom t′ r o′ next → held′ < entriesFor t′ r o′ next
+      → ran .answer ≡ runs.LogShort (swapsIn (ran .answer)) (left o′ g) (short next (entriesFor t′ r o′ next) held′)
+  run-log-short a n h e =
+      run.run-short plainSwap plan s r g a budget n (short next (entriesFor t′ r o′ next) held′) (swap.short-if t′ r o′ held′ next h e)
+
+  -- and only there
+  pub run-log-short-only : (m l : ℕ) (k : Short) → ran .answer ≡ runs.LogShort m l k
+      → (o′ ≡ g → ⊥) × HasRoom t′ r o′ next × (held′ < entriesFor t′ r o′ next) × (k ≡ short next (entriesFor t′ r o′ next) held′)
+  run-log-short-only m l k e =
+      let a = run-starts (λ f q. apart (cc)) in
+      let (n, w) = run.run-shorts plainSwap plan s r g a budget m l k e in
+      let (h, i, q) = swap.short-then t′ r o′ held′ next k w in
+      (n, h, i, q)
+
+  -- paused only where the order left isn't the target, the plan's next swap fits and the log holds its entries
+  pub run-paused-only : (m l : ℕ) → ran .answer ≡ runs.Paused m l → (o′ ≡ g → ⊥) × HasRoom t′ r o′ next × (entriesFor t′ r o′ next ≤ held′)
+  run-paused-only m l e =
+      let a = run-starts (λ f q. apart (cc)) in
+      let (n, w, b) = run.run-paused plainSwap plan s r g a budget m l e in
+      let (h, i) = swap.clear-then t′ r o′ held′ next (ap isClear w) in
+      (n, h, i)
+
+  pub run-one : {a b : RunAnswer} {s₁ s₂ : State}
+      → RunOutcome plainSwap plan s r g budget a s₁ → RunOutcome plainSwap plan s r g budget b s₂ → (a ≡ b) × (s₁ ≡ s₂)
+  run-one = run.run-one plainSwap plan s r g budget
+
+-- ---- Recover
+
+module _ (s : State) where
+  pub recover-refused : (n p : ℕ) → Exactly (recoverOf s .answer ≡ recovers.Refused (refusal n p))
+      (FailsFirst (recoverStages (s .table) (s .order) (s .log)) n p)
+  recover-refused n p = record {
+    wherever = λ f. ap (λ (c : Call RecoverAnswer). c .answer) (recover.recover-refuses s n p f);
+    only = recover.recover-refuses-only s n p;
+  }
+
+  -- a refusal makes no store
+  pub recover-unchanged : (f : Refusal) → recoverOf s .answer ≡ recovers.Refused f → recoverCall s .stores ≡ []
+  recover-unchanged f e =
+      ap (λ (c : Call RecoverAnswer). c .stores) (recover.recover-refuses s (f .number) (f .place) (recover.recover-refuses-only s (f .number) (f .place) e))
+
+  pub recover-one : {a b : RecoverAnswer} {s₁ s₂ : State} → RecoverOutcome s a s₁ → RecoverOutcome s b s₂ → (a ≡ b) × (s₁ ≡ s₂)
+  recover-one = recover.recover-one s

@@ -20,8 +20,9 @@ use Rattle.counting.specs.Theorems as count
 use Rattle.counting.specs.Theorems.{Counts, answersOne}
 use Rattle.counting.specs.declared.CountAnswer.{CountAnswer}
 use Rattle.counting.specs.declared.CountAnswer.the-variants as counts
+use Rattle.undo.specs.Stores.{State}
 use Rattle.demands.specs.Exactly.{Exactly}
-use Rattle.demands.specs.Operations.{Operation, Store, leavesAll, operations-same}
+use Rattle.demands.specs.Operations.{Operation, leavesAll, operations-same}
 use Rattle.demands.specs.SameCount.{count-same}
 
 module _ (t r o : List ℕ) (position : ℕ) where
@@ -58,6 +59,6 @@ module _ (t r o : List ℕ) (position : ℕ) where
           record { wherever = count.uniform-if t r o position w b; only = count.uniform-only t r o position w b }
 
 -- no list of swaps and slices changes what Count answers of a root, its count and its share; of any bytes, whatever each operation answers
-pub operations-count : (r : List ℕ) (position : ℕ) (list : List Operation) (s : Store)
+pub operations-count : (r : List ℕ) (position : ℕ) (list : List Operation) (s : State)
     → countOf (leavesAll r list s .table) r (leavesAll r list s .order) position ≡ countOf (s .table) r (s .order) position
 operations-count r position list s = operations-same r (λ t o. countOf t r o position) (λ t o t′ o′ a. count-same a position) list s

@@ -8,3 +8,5 @@ pub mod Kept
 pub mod Counted
 pub mod Sliced
 pub mod Labelled
+pub mod EmptyLog
+pub mod Survived

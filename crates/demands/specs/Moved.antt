@@ -11,12 +11,14 @@ use Rattle.diagrams.specs.Value.{value}
 use Rattle.orders.specs.Exchange.{length-exchange}
 use Rattle.checks.specs.Usable.{Usable}
 use Rattle.checks.specs.declared.Refusal.{Refusal}
+use Rattle.undo.specs.Stores.{State}
+use Rattle.undo.specs.Calls.{Ended}
 use Rattle.swaps.specs.Outcome.{swapOf}
-use Rattle.swaps.specs.Entry.{made-only, made-is, made-usable, made-root-value, unmade-keeps}
+use Rattle.swaps.specs.Entry.{made-only, made-is, made-usable, made-root-value, unmade-state}
 use Rattle.swaps.specs.declared.SwapAnswer.{SwapAnswer}
 use Rattle.swaps.specs.declared.SwapAnswer.the-variants as swaps
 use Rattle.slices.specs.OneSwap.{plainSwap}
-use Rattle.slices.specs.Run.{Ran, runOf}
+use Rattle.slices.specs.Run.{runOf}
 use Rattle.slices.specs.Theorems.{run-startable, run-usable, run-long, run-root-value, refused-keeps}
 use Rattle.slices.specs.declared.RunAnswer.{RunAnswer}
 use Rattle.slices.specs.declared.RunAnswer.the-variants as runs
@@ -39,50 +41,53 @@ pub moved-same : {A : Type 0} (tell : List ℕ → List ℕ → A) {r t o t′ o
 moved-same tell f (unchanged p q) = ap₂ tell p q
 moved-same tell f (alike a) = f a
 
-module _ (t r o : List ℕ) (k : ℕ) where
-  -- any swap of any bytes
-  abbrev SwapMoved : Type 0
-  SwapMoved = Moved r t o (swapOf t r o k .table) (swapOf t r o k .order)
+-- of two states, of which the log doesn't matter
+abbrev pub MovedTo : List ℕ → State → State → Type 0
+MovedTo r s s′ = Moved r (s .table) (s .order) (s′ .table) (s′ .order)
 
-  swap-kept : (swapOf t r o k .answer ≡ swaps.Made → ⊥) → SwapMoved
-  swap-kept n = let (p, q) = unmade-keeps t r o k n in unchanged p q
+still : {r : List ℕ} {s s′ : State} → s′ ≡ s → MovedTo r s s′
+still e = unchanged (ap (λ (z : State). z .table) e) (ap (λ (z : State). z .order) e)
 
-  swap-by : (a : SwapAnswer) → swapOf t r o k .answer ≡ a → SwapMoved
+module _ (s : State) (r : List ℕ) (k : ℕ) where
+  swap-kept : (swapOf s r k .answer ≡ swaps.Made → ⊥) → MovedTo r s (swapOf s r k .state)
+  swap-kept n = still (unmade-state s r k n)
+
+  swap-by : (a : SwapAnswer) → swapOf s r k .answer ≡ a → MovedTo r s (swapOf s r k .state)
   swap-by swaps.Made e = alike (record {
-    before = made-only t r o k e .0 .0;
-    after = made-usable t r o k e;
-    long = ap (λ s. length (s .order)) (made-is t r o k e) ∙ length-exchange o k;
-    same = made-root-value t r o k e;
+    before = made-only s r k e .0 .usable;
+    after = made-usable s r k e;
+    long = ap (λ (w : Ended SwapAnswer). length (w .state .order)) (made-is s r k e) ∙ length-exchange (s .order) k;
+    same = made-root-value s r k e;
   })
   swap-by (swaps.NoRoom l) e = swap-kept (λ m. apart (cc))
+  swap-by (swaps.LogShort l) e = swap-kept (λ m. apart (cc))
   swap-by (swaps.Refused f) e = swap-kept (λ m. apart (cc))
 
-  pub swap-moved : SwapMoved
-  swap-moved = swap-by (swapOf t r o k .answer) refl
+  -- any swap of any bytes
+  pub swap-moved : MovedTo r s (swapOf s r k .state)
+  swap-moved = swap-by (swapOf s r k .answer) refl
 
-module _ (plan : ℕ) (t r o g : List ℕ) (budget : ℕ) where
-  abbrev ran : Ran
-  ran = runOf plainSwap plan t r o g budget
+module _ (plan : ℕ) (s : State) (r g : List ℕ) (budget : ℕ) where
+  abbrev ran : Ended RunAnswer
+  ran = runOf plainSwap plan s r g budget
 
-  -- any slice of any bytes
-  abbrev RunMoved : Type 0
-  RunMoved = Moved r t o (ran .table) (ran .order)
-
-  run-started : ((f : Refusal) → ran .answer ≡ runs.Refused f → ⊥) → RunMoved
+  run-started : ((f : Refusal) → ran .answer ≡ runs.Refused f → ⊥) → MovedTo r s (ran .state)
   run-started n =
-      let s = run-startable plainSwap plan t r o g budget n in
+      let starts = run-startable plainSwap plan s r g budget n in
       alike (record {
-        before = s .ready .usable;
-        after = run-usable plainSwap plan t r o g s budget;
-        long = run-long plainSwap plan t r o g s budget;
-        same = run-root-value plainSwap plan t r o g s budget;
+        before = starts .ready .usable;
+        after = run-usable plainSwap plan s r g starts budget;
+        long = run-long plainSwap plan s r g starts budget;
+        same = run-root-value plainSwap plan s r g starts budget;
       })
 
-  run-by : (a : RunAnswer) → ran .answer ≡ a → RunMoved
-  run-by (runs.Refused f) e = let (p, q) = refused-keeps plainSwap plan t r o g budget f e in unchanged p q
+  run-by : (a : RunAnswer) → ran .answer ≡ a → MovedTo r s (ran .state)
+  run-by (runs.Refused f) e = still (refused-keeps plainSwap plan s r g budget f e)
   run-by (runs.Done m l) e = run-started (λ f q. apart (cc))
   run-by (runs.NoRoom m l k) e = run-started (λ f q. apart (cc))
+  run-by (runs.LogShort m l k) e = run-started (λ f q. apart (cc))
   run-by (runs.Paused m l) e = run-started (λ f q. apart (cc))
 
-  pub run-moved : RunMoved
+  -- any slice of any bytes
+  pub run-moved : MovedTo r s (ran .state)
   run-moved = run-by (ran .answer) refl

@@ -1,5 +1,5 @@
 -- The listing of a store as a list of bytes: a line for the order, the lines of each record, a line for the roots.
--- docs/RULES.md, 7.2.
+-- docs/RULES.md, 8.2.
 use Prim.Native.Nat.{ℕ}
 use mathlib.Core.List.{List, _++_}
 use lib.ListN.{length, getD}

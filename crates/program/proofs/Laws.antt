@@ -11,7 +11,7 @@ use Rattle.job.specs.Job.{JobOutcome}
 use Rattle.texts.specs.Put.{Put, Printed, put-nothing, space-as, put-as}
 use Rattle.listing.specs.Text.{listing}
 use Rattle.program.specs.Text.{answerText, isRefused, planLine, planText, storeText, printed}
-use Rattle.program.specs.Program.{programText, Prints}
+use Rattle.program.specs.Program.{textWith, Prints}
 use Rattle.program.specs.Size.{text-space}
 
 -- ---- an answer
@@ -49,7 +49,7 @@ pub ruleset storing = (space-as, put-as, store-none, store-listed, needs)
 
 pub program-printed : (t r o g p s f : List ℕ) {a : RunAnswer} {t′ o′ x y : List ℕ} {n k : ℕ}
     → JobOutcome t r o g p a t′ o′ → k ≡ getD p 0 0 → Printed (printed k a (textOf s f) t′ r o′) x y n → Prints t r o g p s f x y n
-unfolding programText
+unfolding textWith
 program-printed t r o g p s f {x = x} {y = y} {n = n} e q h = rw (← e, ← q) h
 
 pub ruleset printing = (text-space, program-printed, needs)

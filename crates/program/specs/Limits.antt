@@ -23,13 +23,14 @@ use Rattle.labels.specs.Labelled.{RightLength, Unlabelled, site-wrong, factory-
 use Rattle.labels.specs.Texts.{text-empty-if}
 use Rattle.plans.specs.Numbered.{noPlan}
 use Rattle.slices.specs.OneSwap.{plainSwap}
-use Rattle.slices.specs.Run.{Ran, badRunSizes, storeStages, runStages, runOf}
+use Rattle.slices.specs.Run.{badRunSizes, storeStages, runStages, runCall}
 use Rattle.slices.specs.Theorems.{run-sizes}
 use Rattle.slices.specs.declared.RunAnswer.the-variants.{Refused}
 use Rattle.texts.specs.Text.{bytes, places, decimal, numbered}
 use Rattle.program.specs.Text.{answerText, answerLine, planText, storeText, printed}
-use Rattle.job.specs.Job.{jobOf}
-use Rattle.program.specs.Program.{programText}
+use Rattle.undo.specs.Stores.{puts}
+use Rattle.job.specs.Job.{Ran, emptyLog, jobWith, jobOf}
+use Rattle.program.specs.Program.{textWith, programText}
 
 -- which file it is: trip.nod, trip.rts, trip.ord or trip.tgt is too long, or trip.rts doesn't hold whole roots
 pub data OverLimit (t r o g : List ℕ) : Type 0 where
@@ -47,7 +48,7 @@ module _ (t r o g : List ℕ) where
   sizes-wrong (target-long h) s = omega (arith, s .0 .few-variables)
   sizes-wrong (roots-odd h) s = omega (arith, s .0 .whole-roots)
 
-  first-fails : OverLimit t r o g → verdictOf (storeStages plainSwap t r o g) ≡ verdict.Refused (refusal 1 0)
+  first-fails : OverLimit t r o g → verdictOf (storeStages plainSwap t r o g emptyLog) ≡ verdict.Refused (refusal 1 0)
   unfolding storeStages
   first-fails h =
       let e = ⊎-elim (λ e. e) (λ e. absurd (sizes-wrong h (run-sizes t r o g e))) (by (badRunSizes t r o g)) in
@@ -55,10 +56,10 @@ module _ (t r o g : List ℕ) where
 
   -- whatever else the files hold, trip.pln too
   pub over-refused : (p : List ℕ) → OverLimit t r o g → jobOf t r o g p ≡ record { answer = Refused (refusal 1 0); table = t; order = o }
-  unfolding jobOf runOf runStages
+  unfolding jobWith runCall runStages puts
   over-refused p h =
       let rest = stageAt 13 (getD p 0 0) (noPlan (getD p 0 0)) ∷ [] in
-      let whole = sym (row-refuses (storeStages plainSwap t r o g) rest (refusal 1 0) (sym (first-fails h)) refl) in
+      let whole = sym (row-refuses (storeStages plainSwap t r o g emptyLog) rest (refusal 1 0) (sym (first-fails h)) refl) in
       rw (whole, first-fails h) (either (eqb (length p) 1))
     where
       either : {x : Ran} (b : Bool) → cond b x x ≡ x
@@ -66,7 +67,7 @@ module _ (t r o g : List ℕ) where
       either false = refl
 
   pub over-printed : (p s f : List ℕ) → OverLimit t r o g → programText t r o g p s f ≡ bytes "refused 1 place 0\n"
-  unfolding first places decimal numbered answerText answerLine planText storeText printed programText
+  unfolding first places decimal numbered answerText answerLine planText storeText printed textWith
   over-printed p s f h = ap (λ (ran : Ran). printed (getD p 0 0) (ran .answer) (textOf s f) (ran .table) r (ran .order)) (over-refused p h)
 
 -- ---- a file read up to one byte past its limit
@@ -86,7 +87,7 @@ same-text p p′ s f h k = over-printed _ _ _ _ p s f h ∙ sym (over-printed _ 
 
 -- a plan file of two bytes or more tells no plan, as one cut after two
 plan-cut : (t r o g p s f : List ℕ) → programText t r o g (cut 1 p) s f ≡ programText t r o g p s f
-unfolding programText jobOf
+unfolding textWith jobWith
 plan-cut t r o g p s f = rw (getD-take 2 p 0 0 (omega arith), either-side 1 (length p) long (λ l. ap (λ x. eqb (length x) 1) (whole 1 p l)))
   where
     long : 1 < length p → eqb (length (cut 1 p)) 1 ≡ eqb (length p) 1
@@ -130,5 +131,5 @@ module _ (t r o g p s f : List ℕ) where
       (λ d. rw (whole T t a, whole R r b, whole ceiling o c, whole ceiling g d) (plan-cut t r o g p s f)))))
 
   pub cut-tells : programText (cut T t) (cut R r) (cut ceiling o) (cut ceiling g) p′ (cut L s) (cut L f) ≡ programText t r o g p s f
-  unfolding programText
+  unfolding textWith
   cut-tells = rw (labels-cut s f) store-tells

@@ -8,15 +8,16 @@ use lib.ListN.{length}
 use Rattle.labels.specs.Label.{textSize, textOf}
 use Rattle.labels.specs.Texts.{text-short}
 use Rattle.swaps.specs.declared.Lack.{Lack}
+use Rattle.swaps.specs.declared.Short as swap
 use Rattle.slices.specs.declared.RunAnswer.{RunAnswer}
-use Rattle.slices.specs.declared.RunAnswer.the-variants.{Done, NoRoom, Paused, Refused}
+use Rattle.slices.specs.declared.RunAnswer.the-variants.{Done, NoRoom, LogShort, Paused, Refused}
 use Rattle.texts.specs.Text.{bytes}
 use Rattle.texts.specs.Put.{Space}
 use Rattle.texts.specs.Short.{Short, short, both-short, shorter, either-short, word-short, numbered-any}
 use Rattle.listing.specs.Text.{listing}
 use Rattle.diagrams.specs.Bytes.{Bytes}
 use Rattle.listing.specs.Size.{listing-short}
-use Rattle.program.specs.Text.{swapsText, lackText, answerText, answerLine, isRefused, planLine, planText, storeText, printed}
+use Rattle.program.specs.Text.{swapsText, lackText, shortText, answerText, answerLine, isRefused, planLine, planText, storeText, printed}
 use Rattle.program.specs.Program.{mostText, Held}
 
 -- ---- the line of the plan: at most 27 bytes
@@ -25,9 +26,9 @@ plan-short : (a : RunAnswer) (plan : ℕ) → Short (planText a plan) 27
 unfolding planText planLine
 plan-short a plan = either-short (isRefused a) (short zero-le) (both-short (numbered-any (bytes "plan ") _) (word-short (bytes "\n")))
 
--- ---- the line of the answer, without its end: at most 146 bytes
+-- ---- the line of the answer, without its end: at most 148 bytes
 
-swaps-short : (word : List ℕ) (s l : ℕ) → Short word 14 → Short (swapsText word s l) 62
+swaps-short : (word : List ℕ) (s l : ℕ) → Short word 16 → Short (swapsText word s l) 64
 unfolding swapsText
 swaps-short word s l h = short (omega (arith, both-short (numbered-any word s) (numbered-any (bytes " left ") l) .most, h .most))
 
@@ -35,12 +36,17 @@ lack-short : (l : Lack) → Short (lackText l) 84
 unfolding lackText
 lack-short l = both-short (both-short (numbered-any (bytes " level ") _) (numbered-any (bytes " needed ") _)) (numbered-any (bytes " free ") _)
 
-answer-short : (a : RunAnswer) → Short (answerText a) 146
+held-short : (l : swap.Short) → Short (shortText l) 84
+unfolding shortText
+held-short l = both-short (both-short (numbered-any (bytes " level ") _) (numbered-any (bytes " needed ") _)) (numbered-any (bytes " held ") _)
+
+answer-short : (a : RunAnswer) → Short (answerText a) 148
 unfolding answerText
-answer-short (Done s l) = shorter 146 (swaps-short (bytes "done swaps ") s l (short (lit≤ tt))) tt
+answer-short (Done s l) = shorter 148 (swaps-short (bytes "done swaps ") s l (short (lit≤ tt))) tt
 answer-short (NoRoom s l lack) = both-short (swaps-short (bytes "no room swaps ") s l (short (lit≤ tt))) (lack-short lack)
-answer-short (Paused s l) = shorter 146 (swaps-short (bytes "paused swaps ") s l (short (lit≤ tt))) tt
-answer-short (Refused w) = shorter 146 (both-short (numbered-any (bytes "refused ") _) (numbered-any (bytes " place ") _)) tt
+answer-short (LogShort s l log) = both-short (swaps-short (bytes "log short swaps ") s l (short (lit≤ tt))) (held-short log)
+answer-short (Paused s l) = shorter 148 (swaps-short (bytes "paused swaps ") s l (short (lit≤ tt))) tt
+answer-short (Refused w) = shorter 148 (both-short (numbered-any (bytes "refused ") _) (numbered-any (bytes " place ") _)) tt
 
 -- ---- the whole text
 

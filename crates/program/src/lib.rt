@@ -5,9 +5,9 @@ ghost use Prim.Native.Nat.{_≤_};
 ghost use lib.ListN.{length};
 ghost use Rattle.labels.specs.Label.{textOf};
 ghost use Rattle.texts.specs.Put.{Put, Space, Printed};
-ghost use Rattle.program.specs.Text.{swapsText, lackText, answerText, answerLine, isRefused, planLine, planText, storeText, printed};
+ghost use Rattle.program.specs.Text.{swapsText, lackText, shortText, answerText, answerLine, isRefused, planLine, planText, storeText, printed};
 ghost use Rattle.program.specs.Program.{Prints, mostText, Held};
-ghost use Rattle.slices.specs.declared.RunAnswer.the-variants.{NoRoom, Refused};
+ghost use Rattle.slices.specs.declared.RunAnswer.the-variants.{NoRoom, LogShort, Refused};
 use checks::Refusal;
 use diagrams::MOST_RECORDS;
 use diagrams::MOST_ROOTS;
@@ -15,15 +15,16 @@ use labels::TEXT_SIZE;
 use orders::Order;
 use slices::RunAnswer;
 use swaps::Lack;
+use swaps::Short;
 use texts::put;
 use texts::put_numbered;
 
 // The most bytes that are printed of a full store, with one variable more than an order may have: 21 a record and a whole text with the end of its
-// line, 6 a root, 4 a variable, and 186 for the first two lines and the words.
+// line, 6 a root, 4 a variable, and 188 for the first two lines and the words.
 pub const MOST_TEXT: usize = (21 + (TEXT_SIZE + 1)) * MOST_RECORDS
     + 6 * MOST_ROOTS
     + 4 * (Order::CEILING + 1)
-    + 186;
+    + 188;
 
 // ---- the line of the answer
 
@@ -53,6 +54,24 @@ fn put_no_room(out: &mut [u8], at: usize, swaps: usize, left: usize, lack: Lack)
     put_lack(out, after_swaps, lack)
 }
 
+// Why the log doesn't hold its entries.
+fn put_short(out: &mut [u8], at: usize, short: Short) -> usize
+    requires { ⌜ Space (now out) at (shortText short) ⌝ }
+    ensures { λ r. ⌜ Put (now (out .entry)) at (shortText short) (now (out .exit)) r ⌝ }
+{
+    let after_level = put_numbered(out, at, b" level ", short.level);
+    let after_needed = put_numbered(out, after_level, b" needed ", short.needed);
+    put_numbered(out, after_needed, b" held ", short.held)
+}
+
+fn put_log_short(out: &mut [u8], at: usize, swaps: usize, left: usize, short: Short) -> usize
+    requires { ⌜ Space (now out) at (answerText (LogShort swaps left short)) ⌝ }
+    ensures { λ r. ⌜ Put (now (out .entry)) at (answerText (LogShort swaps left short)) (now (out .exit)) r ⌝ }
+{
+    let after_swaps = put_swaps(out, at, b"log short swaps ", swaps, left);
+    put_short(out, after_swaps, short)
+}
+
 fn put_refusal(out: &mut [u8], at: usize, refusal: Refusal) -> usize
     requires { ⌜ Space (now out) at (answerText (Refused refusal)) ⌝ }
     ensures { λ r. ⌜ Put (now (out .entry)) at (answerText (Refused refusal)) (now (out .exit)) r ⌝ }
@@ -68,6 +87,7 @@ fn put_answer(out: &mut [u8], at: usize, answer: RunAnswer) -> usize
     match answer {
         RunAnswer::Done { swaps, left } => put_swaps(out, at, b"done swaps ", swaps, left),
         RunAnswer::NoRoom { swaps, left, lack } => put_no_room(out, at, swaps, left, lack),
+        RunAnswer::LogShort { swaps, left, short } => put_log_short(out, at, swaps, left, short),
         RunAnswer::Paused { swaps, left } => put_swaps(out, at, b"paused swaps ", swaps, left),
         RunAnswer::Refused(refusal) => put_refusal(out, at, refusal),
     }
@@ -87,6 +107,7 @@ fn is_refused(answer: RunAnswer) -> bool
     match answer {
         RunAnswer::Done { .. } => false,
         RunAnswer::NoRoom { .. } => false,
+        RunAnswer::LogShort { .. } => false,
         RunAnswer::Paused { .. } => false,
         RunAnswer::Refused(_) => true,
     }

@@ -1,5 +1,5 @@
 -- The lines of a record as a list of bytes: what it holds, and the label of its variable.
--- docs/RULES.md, 7.2.
+-- docs/RULES.md, 8.2.
 use Prim.Native.Nat.{ℕ}
 use mathlib.Core.Bool.{cond, _||_}
 use mathlib.Core.List.{List, [], _∷_, _++_}

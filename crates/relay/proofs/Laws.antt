@@ -2,7 +2,7 @@
 use Prim.Native.Nat.{ℕ, _≤_, _<_}
 use mathlib.Core.Bool.{Bool, true, false, _||_}
 use mathlib.Core.List.{List, [], _∷_}
-use mathlib.Core.Path.{_≡_, sym, _∙_}
+use mathlib.Core.Path.{_≡_, ap, sym, _∙_, subst}
 use native.Mathlib.Omega.{arith}
 use borrow.Author.Needs.{needs}
 use borrow.Author.Tests.{lt-ltb, le-ltb, ltb-false}
@@ -29,6 +29,11 @@ use Rattle.counting.specs.Count.{CountOutcome}
 use Rattle.counting.specs.Theorems.{count-place-small}
 use Rattle.counting.specs.declared.CountAnswer.{CountAnswer}
 use Rattle.counting.specs.declared.CountAnswer.the-variants as counting
+use Rattle.undo.specs.Stores.{State}
+use Rattle.undo.specs.Calls.{Ended}
+use Rattle.recovery.specs.Recover as recover
+use Rattle.recovery.specs.Recover.{RecoverOutcome}
+use Rattle.recovery.specs.declared.RecoverAnswer.{RecoverAnswer}
 use Rattle.swaps.specs.Outcome as swap
 use Rattle.swaps.specs.Outcome.{SwapOutcome}
 use Rattle.swaps.specs.declared.SwapAnswer.{SwapAnswer}
@@ -38,8 +43,8 @@ use Rattle.slices.specs.Run.{RunOutcome}
 use Rattle.slices.specs.declared.RunAnswer.{RunAnswer}
 use Rattle.relay_numbers.specs.Written.{Written, wrote, written, told, tells-it}
 use Rattle.relay_parts.specs.Small.{Small, small}
-use Rattle.relay.specs.Told.{toldCount, toldSwap, toldRun, CountTold, SwapTold, RunTold}
-use Rattle.relay_numbers.specs.Fits.{limit, Fits, swap-fits, run-fits}
+use Rattle.relay.specs.Told.{toldCount, toldSwap, toldRun, toldRecover, CountTold, SwapTold, RunTold, RecoverTold}
+use Rattle.relay_numbers.specs.Fits.{limit, Fits, swap-fits, run-fits, recover-fits}
 
 -- ---- what a call tells: the numbers of its answer are written, also of an answer b that was taken apart
 
@@ -105,35 +110,58 @@ module _ (t r o : List ℕ) (position : ℕ) where
 
 pub ruleset counted = (count-place-fits, count-nothing, count-room, share-room, count-told, count-refused, needs)
 
--- ---- a call that may change a table and an order
+-- ---- a call that may change a table, an order and a log
 
-told-nothing : (most : ℕ) (list t o numbers t′ o′ : List ℕ) → length list < most
-    → record { written = wrote 0 list; table = t; order = o } ≡ told most list t o numbers t′ o′
+told-nothing : (most : ℕ) (list : List ℕ) (s : State) (numbers : List ℕ) (s′ : State) → length list < most
+    → record { written = wrote 0 list; state = s } ≡ told most list s numbers s′
 unfolding told
-told-nothing most list t o numbers t′ o′ h = rw (lt-ltb (length list) most h)
+told-nothing most list s numbers s′ h = rw (lt-ltb (length list) most h)
 
-module _ (list t r o : List ℕ) (k : ℕ) where
-  pub swap-nothing : length list < 4 → SwapTold t r o k list (wrote 0 list) t o
+-- the whole answer fits: its numbers are written, and the buffers are those that the call left
+told-all : {A : Type 0} (most : ℕ) (list : List ℕ) (numbers : A → List ℕ) (s : State) {s′ : State} {a : A} {e : Ended A} {w : Written}
+    → record { answer = a; state = s′ } ≡ e → w ≡ written list (numbers a) → most ≤ length list
+    → record { written = w; state = s′ } ≡ told most list s (numbers (e .answer)) (e .state)
+unfolding told
+told-all {A} most list numbers s {s′} {a} {e} {w} outcome p h =
+    ap (λ z. record { written = z; state = s′ }) p
+    ∙ ap (λ (x : Ended A). record { written = written list (numbers (x .answer)); state = x .state }) outcome
+    ∙ rw (le-ltb (length list) most h)
+
+module _ (list : List ℕ) (s : State) (r : List ℕ) (k : ℕ) where
+  pub swap-nothing : length list < 4 → SwapTold s r k list (wrote 0 list) s
   unfolding toldSwap
-  swap-nothing h = told-nothing 4 list t o _ _ _ h
+  swap-nothing h = told-nothing 4 list s _ _ h
 
-  module _ {a : SwapAnswer} {t′ o′ : List ℕ} (outcome : SwapOutcome t r o k a t′ o′) where
-    pub swap-told : {w : Written} → w ≡ written list (swap.numbers a) → 4 ≤ length list → SwapTold t r o k list w t′ o′
-    unfolding toldSwap told
-    swap-told p h = rw (p, le-ltb (length list) 4 h, ← outcome)
+  module _ {a : SwapAnswer} {s′ : State} (outcome : SwapOutcome s r k a s′) where
+    pub swap-told : {w : Written} → w ≡ written list (swap.numbers a) → 4 ≤ length list → SwapTold s r k list w s′
+    unfolding toldSwap
+    swap-told p h = told-all 4 list swap.numbers s outcome p h
 
     pub swap-told-fits : k < limit → Fits (swap.numbers a)
-    swap-told-fits h = rw (← outcome) at (swap-fits t r o k h)
+    swap-told-fits h = subst Fits (ap (λ (e : Ended SwapAnswer). swap.numbers (e .answer)) (sym outcome)) (swap-fits s r k h)
 
-module _ (list t r o g : List ℕ) (plan budget : ℕ) where
-  pub run-nothing : length list < 6 → RunTold t r o g plan budget list (wrote 0 list) t o
+module _ (list : List ℕ) (s : State) (r g : List ℕ) (plan budget : ℕ) where
+  pub run-nothing : length list < 6 → RunTold s r g plan budget list (wrote 0 list) s
   unfolding toldRun
-  run-nothing h = told-nothing 6 list t o _ _ _ h
+  run-nothing h = told-nothing 6 list s _ _ h
 
-  module _ {a : RunAnswer} {t′ o′ : List ℕ} (outcome : RunOutcome plainSwap plan t r o g budget a t′ o′) where
-    pub run-told : {w : Written} → w ≡ written list (run.numbers a) → 6 ≤ length list → RunTold t r o g plan budget list w t′ o′
-    unfolding toldRun told
-    run-told p h = rw (p, le-ltb (length list) 6 h, ← outcome)
+  module _ {a : RunAnswer} {s′ : State} (outcome : RunOutcome plainSwap plan s r g budget a s′) where
+    pub run-told : {w : Written} → w ≡ written list (run.numbers a) → 6 ≤ length list → RunTold s r g plan budget list w s′
+    unfolding toldRun
+    run-told p h = told-all 6 list run.numbers s outcome p h
 
     pub run-told-fits : plan < limit → budget < limit → Fits (run.numbers a)
-    run-told-fits p b = rw (← outcome) at (run-fits t r o g plan budget p b)
+    run-told-fits p b = subst Fits (ap (λ (e : Ended RunAnswer). run.numbers (e .answer)) (sym outcome)) (run-fits s r g plan budget p b)
+
+module _ (list : List ℕ) (s : State) where
+  pub recover-nothing : length list < 2 → RecoverTold s list (wrote 0 list) s
+  unfolding toldRecover
+  recover-nothing h = told-nothing 2 list s _ _ h
+
+  module _ {a : RecoverAnswer} {s′ : State} (outcome : RecoverOutcome s a s′) where
+    pub recover-told : {w : Written} → w ≡ written list (recover.numbers a) → 2 ≤ length list → RecoverTold s list w s′
+    unfolding toldRecover
+    recover-told p h = told-all 2 list recover.numbers s outcome p h
+
+    pub recover-told-fits : Fits (recover.numbers a)
+    recover-told-fits = subst Fits (ap (λ (e : Ended RecoverAnswer). recover.numbers (e .answer)) (sym outcome)) (recover-fits s)

@@ -15,6 +15,8 @@ use Rattle.labels.specs.Label as label
 use Rattle.counting.specs.Count as count
 use Rattle.counting.specs.declared.CountAnswer.{CountAnswer}
 use Rattle.counting.specs.declared.CountAnswer.the-variants as counted
+use Rattle.undo.specs.Stores.{State}
+use Rattle.recovery.specs.Recover as recover
 use Rattle.swaps.specs.Outcome as swap
 use Rattle.slices.specs.OneSwap.{plainSwap}
 use Rattle.slices.specs.Run as run
@@ -61,16 +63,22 @@ abbrev pub CountTold : List ℕ → List ℕ → List ℕ → ℕ → List ℕ �
 CountTold t r o position counts shares list w counts′ shares′ =
     record { written = w; counts = counts′; shares = shares′ } ≡ toldCount list counts shares (count.countOf t r o position)
 
--- ---- calls that may change the table and the order; their longest answers have 4 and 6 numbers
+-- ---- calls that may change the table, the order and the log; their longest answers have 4, 6 and 2 numbers
 
-unfoldable pub toldSwap : List ℕ → List ℕ → List ℕ → List ℕ → ℕ → Told
-toldSwap list t r o k = let w = swap.swapOf t r o k in told 4 list t o (swap.numbers (w .answer)) (w .table) (w .order)
+unfoldable pub toldSwap : List ℕ → State → List ℕ → ℕ → Told
+toldSwap list s r k = let w = swap.swapOf s r k in told 4 list s (swap.numbers (w .answer)) (w .state)
 
-unfoldable pub toldRun : List ℕ → List ℕ → List ℕ → List ℕ → List ℕ → ℕ → ℕ → Told
-toldRun list t r o g plan budget = let w = run.runOf plainSwap plan t r o g budget in told 6 list t o (run.numbers (w .answer)) (w .table) (w .order)
+unfoldable pub toldRun : List ℕ → State → List ℕ → List ℕ → ℕ → ℕ → Told
+toldRun list s r g plan budget = let w = run.runOf plainSwap plan s r g budget in told 6 list s (run.numbers (w .answer)) (w .state)
 
-abbrev pub SwapTold : List ℕ → List ℕ → List ℕ → ℕ → List ℕ → Written → List ℕ → List ℕ → Type 0
-SwapTold t r o k list w t′ o′ = record { written = w; table = t′; order = o′ } ≡ toldSwap list t r o k
+unfoldable pub toldRecover : List ℕ → State → Told
+toldRecover list s = let w = recover.recoverOf s in told 2 list s (recover.numbers (w .answer)) (w .state)
 
-abbrev pub RunTold : List ℕ → List ℕ → List ℕ → List ℕ → ℕ → ℕ → List ℕ → Written → List ℕ → List ℕ → Type 0
-RunTold t r o g plan budget list w t′ o′ = record { written = w; table = t′; order = o′ } ≡ toldRun list t r o g plan budget
+abbrev pub SwapTold : State → List ℕ → ℕ → List ℕ → Written → State → Type 0
+SwapTold s r k list w s′ = record { written = w; state = s′ } ≡ toldSwap list s r k
+
+abbrev pub RunTold : State → List ℕ → List ℕ → ℕ → ℕ → List ℕ → Written → State → Type 0
+RunTold s r g plan budget list w s′ = record { written = w; state = s′ } ≡ toldRun list s r g plan budget
+
+abbrev pub RecoverTold : State → List ℕ → Written → State → Type 0
+RecoverTold s list w s′ = record { written = w; state = s′ } ≡ toldRecover list s

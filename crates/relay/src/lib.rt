@@ -1,6 +1,7 @@
 // The static library for C and Rust: each entry, with its answer as a list of numbers. include/relay.h declares it.
+ghost use Rattle.undo.specs.Stores.{state};
 ghost use Rattle.relay_numbers.specs.Written.{wrote};
-ghost use Rattle.relay.specs.Told.{CheckTold, ReadTold, ShowTold, CountTold, LabelTold, SwapTold, RunTold};
+ghost use Rattle.relay.specs.Told.{CheckTold, ReadTold, ShowTold, CountTold, LabelTold, SwapTold, RunTold, RecoverTold};
 use checks::CheckAnswer;
 use counting::CountAnswer;
 use diagrams::Variable;
@@ -103,16 +104,18 @@ pub extern "C" fn relay_swap(
     table: &mut [u8],
     roots: &[u8],
     order: &mut [u8],
+    log: &mut [u8],
     level: u32,
     answer: &mut [u32],
 ) -> usize
-    ensures { λ n. ⌜ SwapTold (now (table .entry)) (now (roots .entry)) (now (order .entry)) level
-        (now (answer .entry)) (wrote n (now (answer .exit))) (now (table .exit)) (now (order .exit)) ⌝ }
+    ensures { λ n.
+        ⌜ SwapTold (state (now (table .entry)) (now (order .entry)) (now (log .entry))) (now (roots .entry)) level
+        (now (answer .entry)) (wrote n (now (answer .exit))) (state (now (table .exit)) (now (order .exit)) (now (log .exit))) ⌝ }
 {
     if answer.len() < 4 {
         return 0;
     }
-    let a = swaps::swap(table, roots, order, level as usize);
+    let a = swaps::swap(table, roots, order, log, level as usize);
     relay_numbers::tell_swap(answer, a)
 }
 
@@ -122,16 +125,36 @@ pub extern "C" fn relay_run(
     roots: &[u8],
     order: &mut [u8],
     target: &[u8],
+    log: &mut [u8],
     plan: u32,
     budget: u32,
     answer: &mut [u32],
 ) -> usize
-    ensures { λ n. ⌜ RunTold (now (table .entry)) (now (roots .entry)) (now (order .entry)) (now (target .entry)) plan budget
-        (now (answer .entry)) (wrote n (now (answer .exit))) (now (table .exit)) (now (order .exit)) ⌝ }
+    ensures { λ n.
+        ⌜ RunTold (state (now (table .entry)) (now (order .entry)) (now (log .entry))) (now (roots .entry)) (now (target .entry)) plan budget
+        (now (answer .entry)) (wrote n (now (answer .exit))) (state (now (table .exit)) (now (order .exit)) (now (log .exit))) ⌝ }
 {
     if answer.len() < 6 {
         return 0;
     }
-    let a = slices::run(table, roots, order, target, plan, budget);
+    let a = slices::run(table, roots, order, target, log, plan, budget);
     relay_numbers::tell_run(answer, a)
+}
+
+#[no_mangle]
+pub extern "C" fn relay_recover(
+    table: &mut [u8],
+    order: &mut [u8],
+    log: &mut [u8],
+    answer: &mut [u32],
+) -> usize
+    ensures { λ n.
+        ⌜ RecoverTold (state (now (table .entry)) (now (order .entry)) (now (log .entry)))
+        (now (answer .entry)) (wrote n (now (answer .exit))) (state (now (table .exit)) (now (order .exit)) (now (log .exit))) ⌝ }
+{
+    if answer.len() < 2 {
+        return 0;
+    }
+    let a = recovery::recover(table, order, log);
+    relay_numbers::tell_recover(answer, a)
 }

@@ -5,6 +5,7 @@ use mathlib.Core.List.{List, _++_}
 use mathlib.Core.Path.{_≡_, ap, _∙_}
 use lib.Dec.{ltb}
 use lib.ListN.{length, drop}
+use Rattle.undo.specs.Stores.{State}
 
 pub record Written : Type 0 where
   pub count : ℕ
@@ -27,16 +28,13 @@ module _ {A : Type 0} (numbers : A → List ℕ) (list : List ℕ) {w : Written}
   pub tells-apart : a ≡ b → w ≡ written list (numbers b) → w ≡ written list (numbers a)
   tells-apart p e = rw p e
 
--- ---- a call that may change a table and an order: only where its whole answer fits the lent list
+-- ---- a call that may change a table, an order and a log: only where its whole answer fits the lent list
 
 pub record Told : Type 0 where
   pub written : Written
-  pub table : List ℕ
-  pub order : List ℕ
+  pub state : State
 
 -- `most` is how many numbers the longest answer has
-unfoldable pub told : ℕ → List ℕ → List ℕ → List ℕ → List ℕ → List ℕ → List ℕ → Told
-told most list t o numbers t′ o′ =
-    cond (ltb (length list) most)
-    (record { written = wrote 0 list; table = t; order = o })
-    (record { written = written list numbers; table = t′; order = o′ })
+unfoldable pub told : ℕ → List ℕ → State → List ℕ → State → Told
+told most list s numbers s′ =
+    cond (ltb (length list) most) (record { written = wrote 0 list; state = s }) (record { written = written list numbers; state = s′ })

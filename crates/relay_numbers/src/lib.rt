@@ -2,18 +2,22 @@
 ghost use mathlib.Core.List.{[], _∷_};
 ghost use mathlib.Core.Path.{_≡_};
 ghost use Prim.Native.Nat.{_<_};
+ghost use Rattle.recovery.specs.Recover as recover;
 ghost use Rattle.swaps.specs.Outcome as swap;
 ghost use Rattle.slices.specs.Run as run;
 ghost use Rattle.relay_numbers.specs.Written.{wrote, written};
 ghost use Rattle.relay_numbers.specs.Fits.{limit, Fits};
 use checks::Refusal;
+use recovery::RecoverAnswer;
 use slices::RunAnswer;
 use swaps::SwapAnswer;
 
-// The first numbers of two answers that are no refusal.
+// The first numbers of three answers that are no refusal.
 const NO_ROOM: u32 = 100;
 
 const PAUSED: u32 = 101;
+
+const LOG_SHORT: u32 = 102;
 
 // The numbers at the front of the list; how many, or 0 where they don't fit.
 pub fn write(list: &mut [u32], numbers: &[u32]) -> usize
@@ -59,7 +63,29 @@ pub fn tell_swap(answer: &mut [u32], a: SwapAnswer) -> usize
             ];
             write(answer, &numbers)
         }
+        SwapAnswer::LogShort(short) => {
+            let numbers = [
+                LOG_SHORT,
+                short.level as u32,
+                short.needed as u32,
+                short.held as u32,
+            ];
+            write(answer, &numbers)
+        }
         SwapAnswer::Refused(refusal) => tell_refusal(answer, refusal),
+    }
+}
+
+pub fn tell_recover(answer: &mut [u32], a: RecoverAnswer) -> usize
+    requires { ⌜ Fits (recover.numbers a) ⌝ }
+    ensures { λ n. ⌜ wrote n (now (answer .exit)) ≡ written (now (answer .entry)) (recover.numbers a) ⌝ }
+{
+    match a {
+        RecoverAnswer::PutBack(entries) => {
+            let numbers = [0u32, entries as u32];
+            write(answer, &numbers)
+        }
+        RecoverAnswer::Refused(refusal) => tell_refusal(answer, refusal),
     }
 }
 
@@ -80,6 +106,17 @@ pub fn tell_run(answer: &mut [u32], a: RunAnswer) -> usize
                 lack.level as u32,
                 lack.needed as u32,
                 lack.free as u32,
+            ];
+            write(answer, &numbers)
+        }
+        RunAnswer::LogShort { swaps, left, short } => {
+            let numbers = [
+                LOG_SHORT,
+                swaps as u32,
+                left as u32,
+                short.level as u32,
+                short.needed as u32,
+                short.held as u32,
             ];
             write(answer, &numbers)
         }

@@ -1,3 +1,4 @@
 pub mod Sheet
+pub mod Logs
 pub mod Reversed
 pub mod Counts

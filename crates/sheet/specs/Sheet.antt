@@ -1,8 +1,9 @@
 -- Cases A to H and J of the bench sheet, G and H by every plan, and rows of our own: one table of examples under one claim. Each row is one run, over the
 -- bytes.
-use Prim.Native.Nat.{ℕ, _/_, _%_}
+use Prim.Native.Nat.{ℕ, _*_, _/_, _%_}
 use mathlib.Core.List.{List, [], _∷_, _++_, map}
 use mathlib.Core.Path.{_≡_, refl}
+use lib.ListN.{replicate}
 use Rattle.lists.specs.First.{first}
 use Rattle.lists.specs.Last.{last}
 use Rattle.lists.specs.Count.{count}
@@ -29,11 +30,15 @@ use Rattle.swap_rules.specs.Record.{lowOf, highOf, isFreeNode, isOf, same}
 use Rattle.swap_rules.specs.Swap.{xAt, yAt, grandchild, f00, f01, f10, f11, crosses, asked, stands, isNew, wanted, news, stillNames, dies, slots, slotOf}
 use Rattle.swap_rules.specs.Swap.{dyingCount, X, becomes, needed, freeCount, usedCount, usedAfterwards, fits, slotIndex, filled, recordAfter, swapped}
 use Rattle.swap_preparing.specs.Table.{neededIn, tableAfter}
+use Rattle.undo.specs.Stores.{state, run, put, puts}
+use Rattle.undo.specs.Calls.{Ended}
+use Rattle.undo.specs.Log.{changed, entriesOf, entriesNeeded, entryStores, logging, sealing, putting, swapStores}
+use Rattle.check_log.specs.BadLog.{badLogSize, someByte, badSeal, malformed, past, repeats, badEntry, entryStages, logStages, openStages}
 use Rattle.swaps.specs.Outcome.{wayOf, lack}
 use Rattle.slice_rules.specs.Slices as over
 use Rattle.slice_rules.specs.Slices.{arrived, next, goes, made, leaves, slice}
 use Rattle.slices.specs.OneSwap.{plainSwap}
-use Rattle.slices.specs.Run.{Ran, relay, badRunSizes, storeStages, runStages, answerOf, ranTo, runOf}
+use Rattle.slices.specs.Run.{relay, runStores, badRunSizes, orderStages, storeStages, runStages, answerOf, runCall, runOf}
 use Rattle.slices.specs.declared.RunAnswer.{RunAnswer}
 use Rattle.slices.specs.declared.RunAnswer.the-variants.{Done, NoRoom, Paused, Refused}
 
@@ -43,6 +48,7 @@ pub record Given : Type 0 where
   pub roots : List ℕ
   pub order : List ℕ
   pub target : List ℕ
+  pub log : List ℕ
   pub plan : ℕ
   pub budget : ℕ
 
@@ -57,7 +63,9 @@ pub record Row : Type 0 where
 
 pub record Outcome : Type 0 where
   pub needed : ℕ
-  pub ran : Ran
+  pub answer : RunAnswer
+  pub table : List ℕ
+  pub order : List ℕ
   pub used : ℕ
 
 -- a root is two bytes, little end first
@@ -65,34 +73,47 @@ unfoldable pub rootBytes : List ℕ → List ℕ
 rootBytes [] = []
 rootBytes (x ∷ s) = x % 256 ∷ x / 256 ∷ rootBytes s
 
+abbrev pub ranFrom : Given → Ended RunAnswer
+ranFrom g = runOf plainSwap (g .plan) (state (encode (g .records)) (g .order) (g .log)) (rootBytes (g .roots)) (g .target) (g .budget)
+
 -- what the run gives, by the definition in its contract; `unfolding outcome` opens all that a run is computed with
 unfoldable pub outcome : Row → Outcome
-unfolding nodeAt decode eight encode rootsOf runOf runStages storeStages badRunSizes openedStages ranTo answerOf relay slice leaves over.judge made goes next
-    arrived same? planOf noPlan differsAt bringUp firstDifference sinkDown lastDifference invertedAt lowestInversion highestInversion exchange left
-    inverted pairs total first last count tabulate keep once each which look lowOf highOf isFreeNode isOf same grandchild f00 f01 f10 f11 crosses asked
-    stands isNew wanted news stillNames dies dyingCount slots slotOf X becomes needed freeCount usedCount usedAfterwards fits slotIndex filled recordAfter
-    swapped wayOf tableAfter
+unfolding nodeAt decode eight encode rootsOf runCall runStages storeStages orderStages badRunSizes openedStages openStages logStages entryStages badLogSize
+    badSeal someByte badEntry malformed past repeats answerOf relay runStores run put puts changed entriesOf entriesNeeded entryStores logging sealing putting
+    swapStores slice leaves over.judge made goes next arrived same? planOf noPlan differsAt bringUp firstDifference sinkDown lastDifference invertedAt
+    lowestInversion highestInversion exchange left inverted pairs total first last count tabulate keep once each which look lowOf highOf isFreeNode isOf
+    same grandchild f00 f01 f10 f11 crosses asked stands isNew wanted news stillNames dies dyingCount slots slotOf X becomes needed freeCount usedCount
+    usedAfterwards fits slotIndex filled recordAfter swapped wayOf tableAfter
 outcome row =
     let g = row .given in
     let k = planOf (g .plan) (g .order) (g .target) in
-    let w = runOf plainSwap (g .plan) (encode (g .records)) (rootBytes (g .roots)) (g .order) (g .target) (g .budget) in
-    record { needed = neededIn (encode (g .records)) (xAt (g .order) k) (yAt (g .order) k); ran = w; used = used (w .table) }
+    let w = ranFrom g in
+    record {
+      needed = neededIn (encode (g .records)) (xAt (g .order) k) (yAt (g .order) k);
+      answer = w .answer;
+      table = w .state .table;
+      order = w .state .order;
+      used = used (w .state .table);
+    }
 
 -- what the sheet says
 unfoldable pub expected : Row → Outcome
-expected row =
-    record { needed = row .needed; ran = record { answer = row .answer; table = encode (row .records); order = row .order }; used = row .used }
+expected row = record { needed = row .needed; answer = row .answer; table = encode (row .records); order = row .order; used = row .used }
+
+-- an empty log of so many records
+abbrev emptyLog : ℕ → List ℕ
+emptyLog n = replicate (16 * n) 0
 
 -- order 0 1, target 1 0, by Bring Up: records, roots, budget; needed, answer, records, order and used records afterwards
 unfoldable pub swap : List Node → List ℕ → ℕ → ℕ → RunAnswer → List Node → List ℕ → ℕ → Row
 swap t r b n a t′ o u =
-    let g : Given = record { records = t; roots = r; order = 0 ∷ 1 ∷ []; target = 1 ∷ 0 ∷ []; plan = 0; budget = b } in
+    let g : Given = record { records = t; roots = r; order = 0 ∷ 1 ∷ []; target = 1 ∷ 0 ∷ []; log = emptyLog 8; plan = 0; budget = b } in
     record { given = g; needed = n; answer = a; records = t′; order = o; used = u }
 
 -- no records, no roots: order, target, plan, budget; answer and order afterwards
 unfoldable pub orders : List ℕ → List ℕ → ℕ → ℕ → RunAnswer → List ℕ → Row
 orders o g p b a o′ =
-    let given : Given = record { records = []; roots = []; order = o; target = g; plan = p; budget = b } in
+    let given : Given = record { records = []; roots = []; order = o; target = g; log = emptyLog 2; plan = p; budget = b } in
     record { given = given; needed = 0; answer = a; records = []; order = o′; used = 0 }
 
 -- three swaps from o to g, by a plan: the orders after the first and the second
@@ -138,7 +159,7 @@ stores =
     -- no plan has this number; a record that nothing names wins over that
     ∷ orders (0 ∷ 1 ∷ []) (1 ∷ 0 ∷ []) 4 1 (Refused (refusal 13 4)) (0 ∷ 1 ∷ [])
     ∷ record {
-      given = record { records = node 0 0 1 ∷ []; roots = []; order = 0 ∷ 1 ∷ []; target = 1 ∷ 0 ∷ []; plan = 4; budget = 1 };
+      given = record { records = node 0 0 1 ∷ []; roots = []; order = 0 ∷ 1 ∷ []; target = 1 ∷ 0 ∷ []; log = emptyLog 8; plan = 4; budget = 1 };
       needed = 0;
       answer = Refused (refusal 9 0);
       records = node 0 0 1 ∷ [];

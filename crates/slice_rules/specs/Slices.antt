@@ -127,6 +127,12 @@ module _ {State Way : Type 0} (R : Relay State Way) (plan : Plan) (target : List
   pub made-small : (b : ℕ) (s : State) → made b s ≤ b
   made-small = by-turns (λ b s m t. m ≤ b) (λ s. zero-le) (λ b s e. zero-le) (λ b s m t e h. suc-le-suc h)
 
+  -- the state left is the one after just as many swaps
+  pub leaves-made : (b : ℕ) (s : State) → leaves b s ≡ leaves (made b s) s
+  unfolding leaves
+  leaves-made =
+      by-turns (λ b s m t. t ≡ leaves m s) (λ s. refl) (λ b s e. refl) (λ b s m t e h. h ∙ sym (leaves-goes m s e))
+
   -- ---- slices add up
 
   pub adds : (a b : ℕ) (s : State) → (leaves (a + b) s ≡ leaves b (leaves a s)) × (made (a + b) s ≡ made a s + made b (leaves a s))
@@ -249,10 +255,10 @@ module _ {State Way : Type 0} (R : Relay State Way) (plan : Plan) (target : List
     pub planned-inversion : (s : State) → Good s → goes s ≡ true → Adjacent (R .order s) target (next s)
     planned-inversion s g e = next-inversion s g (goes-on s e .0)
 
-    planned-fits : (s : State) → Good s → goes s ≡ true → (next s + 1 < length target) × (fits R s (next s) ≡ true)
+    pub planned-fits : (s : State) → Good s → goes s ≡ true → (next s + 1 < length target) × (fits R s (next s) ≡ true)
     planned-fits s g e = (rw (laws .long s g) at (planned-inversion s g e .within), goes-on s e .1)
 
-    good-stepped : (s : State) → Good s → goes s ≡ true → Good (stepped s)
+    pub good-stepped : (s : State) → Good s → goes s ≡ true → Good (stepped s)
     good-stepped s g e = let (i, f) = planned-fits s g e in laws .good-swapped s (next s) g i f
 
     order-stepped : (s : State) → Good s → goes s ≡ true → R .order (stepped s) ≡ exchange (R .order s) (next s)

@@ -1,17 +1,19 @@
 -- One law for each way out of a function, over plain variables: its premises are what is known there.
-use Prim.Native.Nat.{ℕ, _+_, _≤_, _<_}
+use Prim.Native.Nat.{ℕ, zero, suc, _+_, _-_, _*_, _≤_, _<_}
 use mathlib.Core.Bool.{Bool, true, false, cond, not}
-use mathlib.Core.List.{List}
-use mathlib.Core.Path.{_≡_, refl, ap, ap₂, sym, _∙_}
+use mathlib.Core.List.{List, [], _++_, append-nil}
+use mathlib.Core.Path.{_≡_, refl, ap, ap₂, sym, _∙_, subst}
+use native.Mathlib.Nat.{add-zero}
 use native.Mathlib.Omega.{arith}
 use borrow.Author.Needs.{needs}
 use borrow.Author.Tests.{not-true, not-false}
 use lib.Dec.{eqb}
-use lib.ListN.{length}
-use lib.Seq.{getD-take}
+use lib.ListN.{length, take, length-append}
+use lib.Seq.{take-all, take-nil, take-append-le}
 use Rattle.lists.specs.First.{passed-all}
-use Rattle.lists.specs.Says.{true-false}
+use Rattle.lists.specs.Says.{true-false, either-side}
 use Rattle.lists.specs.Truth.{or-neither}
+use Rattle.diagrams.specs.Layout.{records}
 use Rattle.orders.specs.Permutation.{ceiling, Permutation}
 use Rattle.orders.specs.Exchange.{exchange}
 use Rattle.orders.specs.Order.{loadOrder, exchangedOrder, Inverse}
@@ -23,60 +25,436 @@ use Rattle.plans.specs.Numbered.{planOf, meant, meant-lawful}
 use Rattle.plans.specs.declared.Plan as coded
 use Rattle.plans.specs.Towards.{arranged-adjacent}
 use Rattle.slice_rules.specs.Slices as over
-use Rattle.slice_rules.specs.Slices.{slicing-begins, slicing-goes, slicing-rests, slicing-ends}
-use Rattle.check_sizes.specs.Sizes.{TableSizes, sized, badSizes}
-use Rattle.checks.specs.Stages.{verdictOf, clear-only, chain}
+use Rattle.slice_rules.specs.Slices.{Relay, slicing-begins, slicing-goes, slicing-rests, slicing-ends}
+use Rattle.check_sizes.specs.Sizes.{TableSizes, sized, badSizes, sizes-if}
+use Rattle.checks.specs.Stages.{verdictOf, clear-only, chain, refusal, place-refuses, place-passes, row-refuses, row-passes}
 use Rattle.checks.specs.declared.Refusal.{Refusal}
 use Rattle.checks.specs.declared.Verdict.{Verdict}
 use Rattle.checks.specs.declared.Verdict.the-variants as verdict
+use Rattle.undo.specs.Stores.{inTable, inOrder, inLog, Buffer, bufferOf, State, state, Store, puts}
+use Rattle.undo.specs.Calls.{Call, whole, cut, only, only-cut, cut-late}
+use Rattle.undo.specs.Mending.{puts-long}
+use Rattle.undo.specs.Wrote.{Spent, spent-none, spent-more, spent-as, spent-long}
+use Rattle.undo.specs.Log.{entrySize, mostLogRecords, entriesHeld}
+use Rattle.undo.specs.Survives.{Ready, Quiet, swap-quiet}
+use Rattle.undo.specs.Counts.{enough}
+use Rattle.check_log.specs.BadLog.{LogSizes, openStages}
+use Rattle.check_log.specs.Open.{open-sizes}
+use Rattle.check_log.specs.Accepted.{same-size}
+use Rattle.check_log.specs.Slots.{Placeable}
 use Rattle.swap_rules.specs.Swap.{xAt, yAt}
-use Rattle.swap_preparing.specs.Table.{tableAfter}
-use Rattle.swaps.specs.Outcome.{wayOf, isClear, TableSwapped}
+use Rattle.swaps.specs.Bytes.{length-after}
+use Rattle.swaps.specs.Entry.{clear-then}
+use Rattle.swaps.specs.Outcome.{tableAfter, wayOf, isClear, swapWay, swapAfter}
+use Rattle.swaps.specs.Work.{Storable, Swapped}
 use Rattle.swaps.specs.declared.Lack.{Lack}
+use Rattle.swaps.specs.declared.Short.{Short}
+use Rattle.swaps.specs.declared.Swapping.{Swapping}
 use Rattle.swaps.specs.declared.Way.{Way}
 use Rattle.swaps.specs.declared.Way.the-variants as way
 use Rattle.slices.specs.OneSwap.{plainSwap}
-use Rattle.slices.specs.Run.{State, relay, badRunSizes, runStages, answerOf, ranTo, runJudged, runOf, SliceDone, RunOutcome}
-use Rattle.slices.specs.Run.{stateOf, Stepped, Driven, judgedOn}
-use Rattle.slices.specs.Theorems.{Ready, run-starts}
+use Rattle.slices.specs.Run.{storesOf, relay, runStores, badRunSizes, orderStages, storeStages, runStages, answerOf, sliceAnswer}
+use Rattle.slices.specs.Run.{sliceCall, runJudged, runCall, RunOutcome}
+use Rattle.slices.specs.Work.{Drivable, Judgeable, progressOf, Stepped, Driven, judgedOn, Stopped}
+use Rattle.slices.specs.Stores.{nextStores, stepped-is, stores-rest, stores-add, stores-leave, stores-few}
+use Rattle.slices.specs.Theorems.{Runnable, few-stores, run-sizes, run-starts}
 use Rattle.slices.specs.declared.RunAnswer.{RunAnswer}
-use Rattle.slices.specs.declared.RunAnswer.the-variants.{Done, NoRoom, Paused, Refused}
+use Rattle.slices.specs.declared.RunAnswer.the-variants.{Done, NoRoom, LogShort, Paused, Refused}
 use Rattle.slices.specs.declared.Progress.{Progress}
 use Rattle.slices.specs.declared.Reached.{Reached}
 
 -- ---- the refusals
 
-pub sizes-right : {b : Bool} (t r o g : List ℕ) → b ≡ badRunSizes t r o g → b ≡ false → badSizes t r o ≡ false
-unfolding badRunSizes
-sizes-right t r o g e h = or-neither (badSizes t r o) (not (eqb (length g) (length o))) (sym e ∙ h) .0
+pub ruleset ordering = (passed-all, chain)
 
-pub ruleset refusing = (sizes-right, passed-all, chain)
+module _ (t r o g log : List ℕ) {b : Bool} (sizes : b ≡ badRunSizes t r o g) where
+  pub sizes-refuse : b ≡ true → verdict.Refused (refusal 1 0) ≡ verdictOf (storeStages plainSwap t r o g log)
+  unfolding storeStages
+  sizes-refuse h = place-refuses 1 0 (badRunSizes t r o g) b _ sizes h
+
+  module _ (h : b ≡ false) where
+    pub sizes-right : badSizes t r o ≡ false
+    unfolding badRunSizes
+    sizes-right = or-neither (badSizes t r o) (not (eqb (length g) (length o))) (sym sizes ∙ h) .0
+
+    pub placeable : {m : ℕ} → m ≡ records t → Placeable m (length o)
+    placeable {m} e = let w = run-sizes t r o g (sym sizes ∙ h) .0 in (w .some-variables, omega (arith, w .few-records, w .few-variables))
+
+    module _ {m : ℕ} (e : m ≡ records t) {v : Verdict} (judged : v ≡ verdictOf (openStages log m (length o))) where
+      log-is : v ≡ verdictOf (openStages log (records t) (length o))
+      log-is = judged ∙ ap (λ n. verdictOf (openStages log n (length o))) e
+
+      pub log-refuses : {f : Refusal} → v ≡ verdict.Refused f → verdict.Refused f ≡ verdictOf (storeStages plainSwap t r o g log)
+      unfolding storeStages
+      log-refuses {f} q = place-passes 1 0 (badRunSizes t r o g) b _ _ sizes h (row-refuses (openStages log (records t) (length o)) _ f log-is q)
+
+      pub orders-judged : {w : Verdict} → v ≡ verdict.Clear → w ≡ verdictOf (orderStages plainSwap t r o g)
+          → w ≡ verdictOf (storeStages plainSwap t r o g log)
+      unfolding storeStages
+      orders-judged {w} q z = place-passes 1 0 (badRunSizes t r o g) b w _ sizes h (row-passes (openStages log (records t) (length o)) _ log-is q z)
+
+pub ruleset refusing = (sizes-refuse, sizes-right, placeable, log-refuses, orders-judged, needs)
 
 -- ---- whatever the plan is
 
-pub few-levels : {order : Order} {n : ℕ} → Arranged order n → n ≤ ceiling
-few-levels h = h .few
+module _ {t r o log : List ℕ} {order goal : Order} {n : ℕ} (d : Drivable t r o log order goal n) where
+  pub few-levels : n ≤ ceiling
+  few-levels = d .arranged .few
+
+  pub order-arranged : Arranged order n
+  order-arranged = d .arranged
+
+  pub goal-arranged : Arranged goal n
+  goal-arranged = d .towards
+
+  pub order-inverse : Inverse order
+  order-inverse = arranged-inverse (d .arranged)
+
+  pub log-sized : LogSizes log
+  log-sized = open-sizes (d .log-open)
+
+  pub table-sized : TableSizes t r
+  table-sized = d .sized
+
+  order-long : length o ≡ n
+  order-long = ap length (d .bytes) ∙ arranged-length (d .arranged)
+
+  -- the plan's pair of levels
+  module _ (name : coded.Plan) {b : Bool} (same : b ≡ same? (bytesOf order n) (bytesOf goal n)) (apart : b ≡ false)
+      {k : ℕ} (planned : k ≡ meant name (bytesOf order n) (bytesOf goal n)) where
+    plan-inside : k + 1 < n
+    plan-inside =
+        let l = rw (arranged-length (d .arranged)) at (arranged-adjacent (d .arranged) (d .towards) (sym same ∙ apart) (meant-lawful name) .within) in
+        rw planned l
+
+    pub plan-in-order : k + 1 < length o
+    plan-in-order = rw order-long plan-inside
+
+    pub plan-low : k + 1 < ceiling
+    plan-low = omega (arith, plan-inside, d .arranged .few)
+
+    pub plan-storable : Storable t r o log k
+    plan-storable = record {
+      sized = d .sized;
+      level = plan-in-order;
+      few-levels = rw order-long (d .arranged .few);
+      log-sized = open-sizes (d .log-open);
+    }
 
 pub differ : (o g : List ℕ) {b : Bool} → b ≡ same? o g → b ≡ false → same? o g ≡ false
 differ o g e h = sym e ∙ h
 
-pub order-inverse : {order : Order} {n : ℕ} → Arranged order n → Inverse order
-order-inverse h = arranged-inverse h
+-- ---- one planned swap, and the answer judged on the state left
 
--- the way is that of the order's first n levels
-same-way : (t r : List ℕ) (order : Order) (n k : ℕ) → k + 1 < n → wayOf t r (order .variables) k ≡ wayOf t r (bytesOf order n) k
-unfolding wayOf
-same-way t r order n k l = rw (getD-take n (order .variables) k 0 (omega arith), getD-take n (order .variables) (k + 1) 0 l)
+module _ (name : coded.Plan) {t r o log : List ℕ} {order goal : Order} {n : ℕ} (d : Drivable t r o log order goal n)
+    {b : Bool} (same : b ≡ same? (bytesOf order n) (bytesOf goal n)) where
+  abbrev plan : Plan
+  plan = meant name
 
-same-table : (t r : List ℕ) (order : Order) (n k : ℕ) → k + 1 < n
-    → tableAfter t r (xAt (order .variables) k) (yAt (order .variables) k) ≡ tableAfter t r (xAt (bytesOf order n) k) (yAt (bytesOf order n) k)
-same-table t r order n k l = rw (getD-take n (order .variables) k 0 (omega arith), getD-take n (order .variables) (k + 1) 0 l)
+  abbrev g : List ℕ
+  g = bytesOf goal n
 
-pub same-sizes : (t t₀ : List ℕ) {r : List ℕ} → length t ≡ length t₀ → TableSizes t₀ r → TableSizes t r
+  abbrev s : State
+  s = state t o log
+
+  arrived-as : b ≡ over.arrived (relay plainSwap r) plan g s
+  unfolding over.arrived relay
+  arrived-as = same ∙ ap (λ x. same? x g) (sym (d .bytes))
+
+  -- the order is the target
+  pub step-arrived : {f : ℕ} → b ≡ true → Stepped plainSwap plan s r g n f (record { moved = false; order = order; fuel = f }) s
+  unfolding over.goes
+  step-arrived e = record {
+    moves = rw (sym arrived-as ∙ e);
+    spent = spent-none;
+    arranged = d .arranged;
+    exchanged = λ f. true-false (sym f);
+  }
+
+  pub judge-done : (swaps : ℕ) {l : ℕ} → l ≡ left (bytesOf order n) g → b ≡ true → Done swaps l ≡ judgedOn plainSwap plan s r g swaps
+  unfolding answerOf over.judge relay
+  judge-done swaps counted e = rw (sym arrived-as ∙ e, counted, d .bytes)
+
+  -- the order isn't the target: the plan has a next level
+  module _ (apart : b ≡ false) {k : ℕ} (planned : k ≡ plan (bytesOf order n) g) where
+    next-is : k ≡ over.next (relay plainSwap r) plan g s
+    unfolding over.next relay
+    next-is = planned ∙ ap (λ x. plan x g) (sym (d .bytes))
+
+    met : {w : Way} → w ≡ wayOf t r o (entriesHeld log) k → over.goes (relay plainSwap r) plan g s ≡ isClear w
+    unfolding over.goes relay
+    met e = rw (sym arrived-as ∙ apart, ← next-is, ← e)
+
+    pub step-made : {f : ℕ} {a : Swapping} {p : Progress} {s′ : State} → Swapped f s r k a s′ → p ≡ progressOf a order k
+        → Stepped plainSwap plan s r g n f p s′
+    step-made {f} {a} {p} {s′} w e = rw e (go (a .way) refl)
+      where
+        inside : k + 1 < n
+        inside = plan-inside d name same apart planned
+
+        stores : (v : Way) → cond (isClear v) (storesOf plainSwap r s (over.next (relay plainSwap r) plan g s)) [] ≡ swapAfter s r k v .stores
+        stores way.Clear = rw (← next-is)
+        stores (way.NoRoom l) = refl
+        stores (way.LogShort l) = refl
+
+        go : (v : Way) → a .way ≡ v → Stepped plainSwap plan s r g n f (progressOf a order k) s′
+        go v q = record {
+          moves = sym (met (w .answer));
+          spent = spent-as (w .spent) (sym (stores (a .way)));
+          arranged = by-way (a .way);
+          exchanged = λ c. moved (a .way) c;
+        }
+          where
+            by-way : (z : Way) → Arranged (cond (isClear z) (exchangedOrder order k) order) n
+            by-way way.Clear = exchanged-arranged (d .arranged) k inside
+            by-way (way.NoRoom l) = d .arranged
+            by-way (way.LogShort l) = d .arranged
+
+            moved : (z : Way) → isClear z ≡ true
+                → bytesOf (cond (isClear z) (exchangedOrder order k) order) n ≡ exchange o (over.next (relay plainSwap r) plan g s)
+            moved way.Clear c = exchanged-bytes (d .arranged) k inside ∙ ap₂ exchange (sym (d .bytes)) next-is
+            moved (way.NoRoom l) c = true-false (sym c)
+            moved (way.LogShort l) c = true-false (sym c)
+
+    module _ (swaps : ℕ) {l : ℕ} (counted : l ≡ left (bytesOf order n) g) {held : ℕ} (holds : held ≡ entriesHeld log)
+        {w : Way} (asked : w ≡ wayOf t r o held k) where
+      judge-meets : answerOf swaps l (over.meets w) ≡ judgedOn plainSwap plan s r g swaps
+      unfolding relay
+      judge-meets =
+          ap₂ (answerOf swaps) (counted ∙ ap (λ x. left x g) (sym (d .bytes)))
+          (ap over.meets (asked ∙ ap₂ (λ (h i : ℕ). wayOf t r o h i) holds next-is)
+          ∙ sym (over.meets-next (relay plainSwap r) plan g s (sym arrived-as ∙ apart)))
+
+      pub judge-stuck : {lack : Lack} → w ≡ way.NoRoom lack → NoRoom swaps l lack ≡ judgedOn plainSwap plan s r g swaps
+      unfolding answerOf
+      judge-stuck e = ap (λ z. answerOf swaps l (over.meets z)) (sym e) ∙ judge-meets
+
+      pub judge-short : {short : Short} → w ≡ way.LogShort short → LogShort swaps l short ≡ judgedOn plainSwap plan s r g swaps
+      unfolding answerOf
+      judge-short e = ap (λ z. answerOf swaps l (over.meets z)) (sym e) ∙ judge-meets
+
+      pub judge-paused : w ≡ way.Clear → Paused swaps l ≡ judgedOn plainSwap plan s r g swaps
+      unfolding answerOf
+      judge-paused e = ap (λ z. answerOf swaps l (over.meets z)) (sym e) ∙ judge-meets
+
+pub ruleset planning = (few-levels, order-arranged, goal-arranged, differ, log-sized, table-sized, plan-in-order, needs)
+
+pub ruleset stepping = (few-levels, order-arranged, goal-arranged, differ, plan-low, order-inverse, plan-storable, step-arrived, step-made, needs)
+
+pub ruleset judging = (judge-done, judge-stuck, judge-short, judge-paused)
+
+-- ---- after a swap
+
+pub progress-made : (a : Swapping) (order : Order) (k : ℕ) {q : Order} → a .way ≡ way.Clear → q ≡ exchangedOrder order k
+    → record { moved = true; order = q; fuel = a .fuel } ≡ progressOf a order k
+progress-made a order k e p = rw (e, p)
+
+pub progress-lacks : (a : Swapping) (order : Order) (k : ℕ) {l : Lack} → a .way ≡ way.NoRoom l
+    → record { moved = false; order = order; fuel = a .fuel } ≡ progressOf a order k
+progress-lacks a order k e = rw e
+
+pub progress-short : (a : Swapping) (order : Order) (k : ℕ) {l : Short} → a .way ≡ way.LogShort l
+    → record { moved = false; order = order; fuel = a .fuel } ≡ progressOf a order k
+progress-short a order k e = rw e
+
+pub ruleset progressing = (progress-made, progress-lacks, progress-short, needs)
+
+-- ---- the loop
+
+same-sizes : (t t₀ : List ℕ) {r : List ℕ} → length t ≡ length t₀ → TableSizes t₀ r → TableSizes t r
 same-sizes t t₀ e s = record { few-records = rw e (s .few-records); whole-records = rw e (s .whole-records); few-roots = s .few-roots }
 
+-- a call that ran out of fuel has made the first stores of any longer row
+spent-out : {f : ℕ} {xs : List Store} (ys : List Store) {s s′ : State} → Spent f xs s s′ 0 → Spent f (xs ++ ys) s s′ 0
+spent-out {f} {xs} ys {s} {s′} w =
+    let few : f ≤ length xs = omega (arith, w .left) in
+    record {
+      state = w .state ∙ ap (λ (l : List Store). puts l s) (sym (take-append-le f xs ys few));
+      left = omega (arith, w .left, length-append xs ys);
+    }
+
+-- one that has fuel left has made them all
+spent-all : {f r : ℕ} {xs : List Store} {s s′ : State} → Spent f xs s s′ r → (r ≡ 0 → ⊥) → s′ ≡ puts xs s
+spent-all {f} {r} {xs} {s} {s′} w n =
+    let all : length xs ≤ f = either-side f (length xs) (λ l. absurd (n (omega (arith, w .left)))) (λ l. l) in
+    w .state ∙ ap (λ (l : List Store). puts l s) (take-all f xs all)
+
+module _ (name : coded.Plan) where
+  abbrev P : Plan
+  P = meant name
+
+  -- at i swaps of the budget, all of them whole
+  pub record Driving (t₀ r o₀ log₀ : List ℕ) (goal : Order) (n budget f : ℕ) (t o log : List ℕ) (order : Order) (i left : ℕ) : Type 0 where
+    pub so-far : over.Slicing (relay plainSwap r) P (bytesOf goal n) (state t₀ o₀ log₀) budget i (state t o log)
+    pub spent : Spent f (runStores plainSwap P r (bytesOf goal n) i (state t₀ o₀ log₀)) (state t₀ o₀ log₀) (state t o log) left
+    pub drivable : Drivable t r o log order goal n
+    pub long-t : length t ≡ length t₀
+    pub long-o : length o ≡ length o₀
+    pub long-log : length log ≡ length log₀
+
+  pub drive-begins : {t r o log : List ℕ} {start goal : Order} {n : ℕ} (budget : ℕ) {f : ℕ} → Drivable t r o log start goal n
+      → Driving t r o log goal n budget f t o log start 0 f
+  unfolding runStores
+  drive-begins {t} {r} {o} {log} {start} {goal} {n} budget d = record {
+    so-far = slicing-begins (relay plainSwap r) P (bytesOf goal n);
+    spent = spent-none;
+    drivable = d;
+    long-t = refl;
+    long-o = refl;
+    long-log = refl;
+  }
+
+  module _ {t₀ r o₀ log₀ : List ℕ} {goal : Order} {n budget f : ℕ} {t o log : List ℕ} {order : Order} {i left : ℕ}
+      (d : Driving t₀ r o₀ log₀ goal n budget f t o log order i left) where
+    abbrev R : Relay State Way
+    R = relay plainSwap r
+
+    abbrev target : List ℕ
+    target = bytesOf goal n
+
+    abbrev begun : State
+    begun = state t₀ o₀ log₀
+
+    abbrev now-at : State
+    now-at = state t o log
+
+    abbrev all-stores : ℕ → List Store
+    all-stores b = runStores plainSwap P r target b begun
+
+    pub drive-drivable : Drivable t r o log order goal n
+    drive-drivable = d .drivable
+
+    -- the stores of the rest of the budget
+    rest-is : (b : ℕ) → all-stores (i + b) ≡ all-stores i ++ runStores plainSwap P r target b now-at
+    rest-is b = stores-add plainSwap P r target i b begun ∙ ap (λ (z : State). all-stores i ++ runStores plainSwap P r target b z) (sym (d .so-far .so-far))
+
+    -- nothing more is to be made
+    pub drive-rests : {p : Progress} {s′ : State} → Stepped plainSwap P now-at r target n left p s′ → not (p .moved) ≡ true
+        → Driven plainSwap P begun r goal n budget f (record { order = order; swaps = i; fuel = left }) s′
+    unfolding puts
+    drive-rests {p} {s′} w e =
+        let still : p .moved ≡ false = not-true (p .moved) e in
+        let rests : over.goes R P target now-at ≡ false = sym (w .moves) ∙ still in
+        let same : s′ ≡ now-at = stays still in
+        let none = stores-rest plainSwap P r target (budget - i) now-at rests in
+        let within : i + (budget - i) ≡ budget = omega (arith, d .so-far .within) in
+        let whole = ap all-stores (sym within) ∙ rest-is (budget - i) in
+        rw same (record {
+          spent = spent-as (d .spent) (sym (whole ∙ ap (λ (l : List Store). all-stores i ++ l) none ∙ append-nil (all-stores i)));
+          sliced = λ h. slicing-rests R P target (d .so-far) rests;
+          judgeable = record { drivable = λ h. d .drivable };
+        })
+      where
+        stays : p .moved ≡ false → s′ ≡ now-at
+        stays q =
+            w .spent .state
+            ∙ ap (λ c. puts (take left (cond c (storesOf plainSwap r now-at (over.next R P target now-at)) [])) now-at) q
+            ∙ ap (λ (l : List Store). puts l now-at) (take-nil {A = Store} left)
+
+    pub drive-ends : budget ≤ i → Driven plainSwap P begun r goal n budget f (record { order = order; swaps = i; fuel = left }) now-at
+    drive-ends l =
+        let all : i ≡ budget = omega (arith, d .so-far .within) in
+        record {
+          spent = spent-as (d .spent) (ap all-stores all);
+          sliced = λ h. slicing-ends R P target (d .so-far) l;
+          judgeable = record { drivable = λ h. d .drivable };
+        }
+
+    module _ {p : Progress} {s′ : State} (w : Stepped plainSwap P now-at r target n left p s′) (e : not (p .moved) ≡ false) (l : i < budget) where
+      gone : p .moved ≡ true
+      gone = not-false (p .moved) e
+
+      goes : over.goes R P target now-at ≡ true
+      goes = sym (w .moves) ∙ gone
+
+      abbrev stores : List Store
+      stores = nextStores plainSwap P r target now-at
+
+      -- the stores of this swap, and all up to it
+      this : Spent left stores now-at s′ (p .fuel)
+      this = spent-as (w .spent) (ap (λ c. cond c stores []) gone)
+
+      one-more : all-stores (i + 1) ≡ all-stores i ++ stores
+      unfolding runStores
+      one-more = rest-is 1 ∙ ap (λ (x : List Store). all-stores i ++ x) (one goes)
+        where
+          one : over.goes R P target now-at ≡ true → runStores plainSwap P r target 1 now-at ≡ stores
+          one g = rw g (append-nil stores)
+
+      up-to : Spent f (all-stores (i + 1)) begun s′ (p .fuel)
+      up-to = spent-as (spent-more (d .spent) this) (sym one-more)
+
+      -- supply is lost in it
+      pub drive-lost : {q : Order} {m : ℕ} → p .fuel ≡ 0 → Driven plainSwap P begun r goal n budget f (record { order = q; swaps = m; fuel = 0 }) s′
+      drive-lost z =
+          let out : Spent f (all-stores (i + 1)) begun s′ 0 = subst (λ x. Spent f (all-stores (i + 1)) begun s′ x) z up-to in
+          let more = runStores plainSwap P r target (budget - (i + 1)) (over.leaves R P target (i + 1) begun) in
+          let whole : i + 1 + (budget - (i + 1)) ≡ budget = omega arith in
+          record {
+            spent = spent-as (spent-out more out) (sym (ap all-stores (sym whole) ∙ stores-add plainSwap P r target (i + 1) (budget - (i + 1)) begun));
+            sliced = λ h. absurd (omega arith);
+            judgeable = record { drivable = λ h. absurd (omega arith) };
+          }
+
+      -- the swap is whole
+      module _ (some : p .fuel ≡ 0 → ⊥) where
+        made : s′ ≡ over.stepped R P target now-at
+        made = spent-all this some ∙ sym (stepped-is plainSwap P r target now-at)
+
+        abbrev k : ℕ
+        k = over.next R P target now-at
+
+        clear : isClear (wayOf t r o (entriesHeld log) k) ≡ true
+        unfolding relay
+        clear = over.goes-on R P target now-at goes .1
+
+        inside : k + 1 < length o
+        unfolding over.next over.arrived relay
+        inside =
+            let apart : same? (bytesOf order n) target ≡ false = rw (d .drivable .bytes) at (over.goes-on R P target now-at goes .0) in
+            plan-in-order (d .drivable) name refl apart (ap (λ x. P x target) (d .drivable .bytes))
+
+        ready : Ready now-at (tableAfter t r o k) k
+        ready = record {
+          long = sym (length-after t r (xAt o k) (yAt o k) (d .drivable .sized .whole-records));
+          whole = omega (arith, d .drivable .sized .whole-records);
+          level = inside;
+          room = clear-then t r o (entriesHeld log) k clear .1;
+          empty = d .drivable .log-open .empty;
+        }
+
+        quiet : Quiet (tableAfter t r o k) (exchange o k) s′
+        quiet = subst (Quiet (tableAfter t r o k) (exchange o k)) (sym (spent-all this some)) (swap-quiet now-at (tableAfter t r o k) k ready)
+
+        drivable-still : Drivable (s′ .table) r (s′ .order) (s′ .log) (p .order) goal n
+        drivable-still = record {
+          sized = same-sizes (s′ .table) t (spent-long inTable this) (d .drivable .sized);
+          log-open = record { sized = same-size (s′ .log) log (spent-long inLog this) (d .drivable .log-open .sized); empty = quiet .empty };
+          arranged = w .arranged;
+          towards = d .drivable .towards;
+          bytes = quiet .order-is ∙ sym (w .exchanged gone);
+        }
+
+        gone-on : Driving t₀ r o₀ log₀ goal n budget f (s′ .table) (s′ .order) (s′ .log) (p .order) (i + 1) (p .fuel)
+        gone-on = record {
+          so-far = slicing-goes R P target (d .so-far) l goes made;
+          spent = up-to;
+          drivable = drivable-still;
+          long-t = spent-long inTable up-to;
+          long-o = spent-long inOrder up-to;
+          long-log = spent-long inLog up-to;
+        }
+
+    pub drive-goes : {p : Progress} {t′ o′ log′ : List ℕ} {q : Order} {m : ℕ} → Stepped plainSwap P now-at r target n left p (state t′ o′ log′)
+        → not (p .moved) ≡ false → i < budget → (m ≡ 0 → ⊥) → q ≡ p .order → m ≡ p .fuel → Driving t₀ r o₀ log₀ goal n budget f t′ o′ log′ q (i + 1) m
+    drive-goes {p} {t′} {o′} {log′} {q} {m} w e l some a b = rw (a, b) (gone-on w e l (λ z. some (b ∙ z)))
+
+pub ruleset driving = (drive-begins, drive-drivable, drive-rests, drive-ends, drive-lost, drive-goes, needs)
+
+-- ---- the entry
+
 -- a run that no check refuses
-module _ (t r o g : List ℕ) (starts : Ready plainSwap t r o g) where
+module _ (t r o g log : List ℕ) (starts : Runnable plainSwap (state t o log) r g) where
   pub target-short : length g ≤ ceiling
   target-short = omega (arith, starts .usable .sizes .few-variables, starts .long)
 
@@ -89,208 +467,88 @@ module _ (t r o g : List ℕ) (starts : Ready plainSwap t r o g) where
   pub order-permuted : Permutation o
   order-permuted = starts .usable .order
 
-  pub table-sized : TableSizes t r
-  table-sized = sized (starts .usable .sizes)
-
-  pub still-sized : {t′ : List ℕ} → length t′ ≡ length t → TableSizes t′ r
-  still-sized {t′} e = same-sizes t′ t e table-sized
-
-  module _ {goal : Order} (goal-is : goal ≡ loadOrder g) where
-    pub goal-arranged : Arranged goal (length o)
-    goal-arranged = rw (goal-is, ← starts .long) (load-arranged g (starts .target) target-short)
+  module _ {goal start : Order} (goal-is : goal ≡ loadOrder g) (start-is : start ≡ loadOrder o) where
+    towards : Arranged goal (length o)
+    towards = rw (goal-is, ← starts .long) (load-arranged g (starts .target) target-short)
 
     goal-bytes : bytesOf goal (length o) ≡ g
     goal-bytes = rw (goal-is, ← starts .long) (load-bytes g target-short)
 
-    module _ {start : Order} (start-is : start ≡ loadOrder o) where
-      pub start-arranged : Arranged start (length o)
-      start-arranged = rw start-is (load-arranged o order-permuted order-short)
+    pub slice-drivable : Drivable t r o log start goal (length o)
+    slice-drivable = record {
+      sized = sized (starts .usable .sizes);
+      log-open = starts .log-open;
+      arranged = rw start-is (load-arranged o order-permuted order-short);
+      towards = towards;
+      bytes = rw start-is (sym (load-bytes o order-short));
+    }
 
-      start-bytes : bytesOf start (length o) ≡ o
-      start-bytes = rw start-is (load-bytes o order-short)
+    -- the slice is towards the target
+    pub slice-done : (name : coded.Plan) (budget : ℕ) {f : ℕ} {a : RunAnswer} {s′ : State}
+        → Stopped f (sliceCall plainSwap (meant name) (state t o log) r (bytesOf goal (length o)) budget) (state t o log) a s′
+        → Stopped f (sliceCall plainSwap (meant name) (state t o log) r g budget) (state t o log) a s′
+    slice-done name budget {f} {a} {s′} d =
+        subst (λ x. Stopped f (sliceCall plainSwap (meant name) (state t o log) r x budget) (state t o log) a s′) goal-bytes d
 
-pub run-ready : (number : ℕ) (t r o g : List ℕ) {v : Verdict} → v ≡ verdictOf (runStages plainSwap number t r o g) → v ≡ verdict.Clear → Ready plainSwap t r o g
-run-ready number t r o g judged e = run-starts plainSwap t r o g number (clear-only (runStages plainSwap number t r o g) (sym judged ∙ e)) .ready
+pub ruleset starting = (target-short, target-permuted, order-short, order-permuted, slice-drivable, needs)
 
--- ---- by the plan that the code's name of it means
+-- what was reached, judged: the answer is known where fuel is left
 
-module _ (name : coded.Plan) where
-  abbrev plan : Plan
-  plan = meant name
+pub towards-done : (name : coded.Plan) {budget f n : ℕ} {l : Reached} {s s′ : State} {r : List ℕ} {goal : Order} {a : RunAnswer}
+    → Driven plainSwap (meant name) s r goal n budget f l s′
+    → (0 < l .fuel → a ≡ judgedOn plainSwap (meant name) s′ r (bytesOf goal n) (l .swaps))
+    → Stopped f (sliceCall plainSwap (meant name) s r (bytesOf goal n) budget) s a s′
+unfolding over.slice relay
+towards-done name {budget} {f} {n} {l} {s} {s′} {r} {goal} {a} d q = record {
+  state = d .spent .state;
+  answer = λ h.
+      let some : 0 < l .fuel = omega (arith, d .spent .left) in
+      let w = d .sliced some in
+      q some ∙ ap₂ (λ (m : ℕ) (z : State). judgedOn plainSwap (meant name) z r (bytesOf goal n) m) (w .swaps-made) (w .state-left);
+}
 
-  -- ---- the plan's pair of levels
+pub answer-lost : {a b : RunAnswer} {n : ℕ} → n ≡ 0 → 0 < n → a ≡ b
+answer-lost e h = absurd (omega arith)
 
-  module _ {order goal : Order} {n : ℕ} (h : Arranged order n) (i : Arranged goal n)
-      {b : Bool} (same : b ≡ same? (bytesOf order n) (bytesOf goal n)) (apart : b ≡ false)
-      {k : ℕ} (planned : k ≡ plan (bytesOf order n) (bytesOf goal n)) where
-    pub plan-inside : k + 1 < n
-    plan-inside =
-        let l = rw (arranged-length h) at (arranged-adjacent h i (sym same ∙ apart) (meant-lawful name) .within) in
-        rw planned l
+pub reached-drivable : {t r o log : List ℕ} {l : Reached} {goal : Order} {n : ℕ} → Judgeable t r o log l goal n → (l .fuel ≡ 0 → ⊥)
+    → Drivable t r o log (l .order) goal n
+reached-drivable {t} {r} {o} {log} {l} j z = j .drivable (either-side 0 (l .fuel) (λ h. h) (λ h. absurd (z (omega arith))))
 
-    pub plan-low : k + 1 < ceiling
-    plan-low = omega (arith, plan-inside, h .few)
+pub run-ready : (number : ℕ) (t r o g log : List ℕ) {v : Verdict} → v ≡ verdictOf (runStages plainSwap number t r o g log) → v ≡ verdict.Clear
+    → Runnable plainSwap (state t o log) r g
+run-ready number t r o g log judged e =
+    run-starts plainSwap (state t o log) r g number (clear-only (runStages plainSwap number t r o g log) (sym judged ∙ e)) .ready
 
-  -- ---- one planned swap, and the answer judged on the state left
+module _ (number : ℕ) (t r o g log : List ℕ) {v : Verdict} (judged : v ≡ verdictOf (runStages plainSwap number t r o g log)) where
+  abbrev s₀ : State
+  s₀ = state t o log
 
-  module _ (t r : List ℕ) {order goal : Order} {n : ℕ} (h : Arranged order n) (i : Arranged goal n)
-      {b : Bool} (same : b ≡ same? (bytesOf order n) (bytesOf goal n)) where
-    rests-there : b ≡ true → false ≡ over.goes (relay plainSwap r) plan (bytesOf goal n) (stateOf t order n)
-    unfolding over.goes over.arrived relay
-    rests-there e = rw (sym same ∙ e)
+  pub run-refused : (budget : ℕ) {f : ℕ} {w : Refusal} → v ≡ verdict.Refused w → Stopped f (runCall plainSwap number s₀ r g budget) s₀ (Refused w) s₀
+  unfolding runCall
+  run-refused budget {f} {w} e =
+      let c : only (Refused w) ≡ runCall plainSwap number s₀ r g budget = ap (runJudged plainSwap (planOf number) s₀ r g budget) (sym e ∙ judged) in
+      record {
+        state = sym (only-cut f (Refused w) s₀) ∙ ap (λ (x : Call RunAnswer). cut f x s₀) c;
+        answer = λ h. ap (λ (x : Call RunAnswer). x .answer) c;
+      }
 
-    pub step-arrived : b ≡ true → Stepped plainSwap plan t r order goal n (record { moved = false; order = order }) t
-    step-arrived e = record { moves = rests-there e; to = λ f. true-false (sym f); stays = λ f. refl; arranged = h }
+  pub run-sliced : (budget : ℕ) {f : ℕ} (plan : coded.Plan) {a : RunAnswer} {s′ : State} → v ≡ verdict.Clear → meant plan ≡ planOf number
+      → Stopped f (sliceCall plainSwap (meant plan) s₀ r g budget) s₀ a s′ → Stopped f (runCall plainSwap number s₀ r g budget) s₀ a s′
+  unfolding runCall
+  run-sliced budget {f} plan {a} {s′} e p d =
+      let c : sliceCall plainSwap (meant plan) s₀ r g budget ≡ runCall plainSwap number s₀ r g budget =
+      ap (λ z. sliceCall plainSwap z s₀ r g budget) p ∙ ap (runJudged plainSwap (planOf number) s₀ r g budget) (sym e ∙ judged) in
+      subst (λ (x : Call RunAnswer). Stopped f x s₀ a s′) c d
 
-    pub judge-done : (swaps : ℕ) {l : ℕ} → l ≡ left (bytesOf order n) (bytesOf goal n) → b ≡ true
-        → Done swaps l ≡ judgedOn plainSwap plan t r order goal n swaps
-    unfolding answerOf over.judge over.arrived relay
-    judge-done swaps counted e = rw (sym same ∙ e, ← counted)
+pub ruleset judged-run = (run-ready, run-refused, run-sliced, needs)
 
-    module _ (apart : b ≡ false) {k : ℕ} (planned : k ≡ plan (bytesOf order n) (bytesOf goal n)) where
-      inside : k + 1 < n
-      inside = plan-inside h i same apart planned
+-- ---- with enough fuel it isn't cut
 
-      -- what the code met is what the slice meets
-      met : {w : Way} → w ≡ wayOf t r (order .variables) k → w ≡ wayOf t r (bytesOf order n) (plan (bytesOf order n) (bytesOf goal n))
-      met e = e ∙ same-way t r order n k inside ∙ ap (wayOf t r (bytesOf order n)) planned
-
-      goes-as : {w : Way} → w ≡ wayOf t r (order .variables) k → over.goes (relay plainSwap r) plan (bytesOf goal n) (stateOf t order n) ≡ isClear w
-      unfolding over.goes over.arrived over.next relay
-      goes-as e = rw (sym same ∙ apart, ← met e)
-
-      stepped-now : over.stepped (relay plainSwap r) plan (bytesOf goal n) (stateOf t order n)
-          ≡ record { table = tableAfter t r (xAt (bytesOf order n) k) (yAt (bytesOf order n) k); order = exchange (bytesOf order n) k }
-      unfolding over.next relay
-      stepped-now = rw planned
-
-      module _ {w : Way} {t′ : List ℕ} (out : TableSwapped t r (order .variables) k w t′) where
-        pub step-stuck : {l : Lack} → w ≡ way.NoRoom l → Stepped plainSwap plan t r order goal n (record { moved = false; order = order }) t′
-        step-stuck {l} e = record {
-          moves = ap isClear (sym e) ∙ sym (goes-as (out .answer));
-          to = λ g. true-false (sym g);
-          stays = λ g. out .table ∙ ap (λ (z : Way). cond (isClear z) (tableAfter t r (xAt (order .variables) k) (yAt (order .variables) k)) t) e;
-          arranged = h;
-        }
-
-        pub step-made : {q : Order} → w ≡ way.Clear → q ≡ exchangedOrder order k
-            → Stepped plainSwap plan t r order goal n (record { moved = true; order = q }) t′
-        step-made {q} e p =
-            let new : t′ ≡ tableAfter t r (xAt (bytesOf order n) k) (yAt (bytesOf order n) k) =
-            out .table
-            ∙ ap (λ (z : Way). cond (isClear z) (tableAfter t r (xAt (order .variables) k) (yAt (order .variables) k)) t) e
-            ∙ same-table t r order n k inside in
-            let moved : bytesOf q n ≡ exchange (bytesOf order n) k = ap (λ z. bytesOf z n) p ∙ exchanged-bytes h k inside in
-            record {
-              moves = ap isClear (sym e) ∙ sym (goes-as (out .answer));
-              to = λ g. ap₂ (λ (z o : List ℕ). record { table = z; order = o }) new moved ∙ sym stepped-now;
-              stays = λ g. true-false g;
-              arranged = rw p (exchanged-arranged h k inside);
-            }
-
-      module _ (swaps : ℕ) {l : ℕ} (counted : l ≡ left (bytesOf order n) (bytesOf goal n)) {w : Way} (asked : w ≡ wayOf t r (order .variables) k) where
-        judge-meets : answerOf swaps l (over.meets w) ≡ judgedOn plainSwap plan t r order goal n swaps
-        unfolding over.judge over.arrived over.next relay
-        judge-meets = rw (sym same ∙ apart, ← met asked, counted)
-
-        pub judge-stuck : {lack : Lack} → w ≡ way.NoRoom lack → NoRoom swaps l lack ≡ judgedOn plainSwap plan t r order goal n swaps
-        unfolding answerOf
-        judge-stuck e = ap (λ z. answerOf swaps l (over.meets z)) (sym e) ∙ judge-meets
-
-        pub judge-paused : w ≡ way.Clear → Paused swaps l ≡ judgedOn plainSwap plan t r order goal n swaps
-        unfolding answerOf
-        judge-paused e = ap (λ z. answerOf swaps l (over.meets z)) (sym e) ∙ judge-meets
-
-  -- ---- the loop
-
-  -- at i swaps of the budget
-  pub record Driving (t₀ r : List ℕ) (start goal : Order) (n budget : ℕ) (t : List ℕ) (order : Order) (i : ℕ) : Type 0 where
-    pub so-far : over.Slicing (relay plainSwap r) plan (bytesOf goal n) (stateOf t₀ start n) budget i (stateOf t order n)
-    pub arranged : Arranged order n
-    pub sized : TableSizes t r
-    pub long : length t ≡ length t₀
-
-  pub drive-begins : {t r : List ℕ} {start : Order} (goal : Order) (budget : ℕ) {n : ℕ} → TableSizes t r → Arranged start n
-      → Driving t r start goal n budget t start 0
-  drive-begins {t} {r} goal budget {n} s a = record { so-far = slicing-begins (relay plainSwap r) plan (bytesOf goal n); arranged = a; sized = s; long = refl }
-
-  module _ {t₀ r : List ℕ} {start goal : Order} {n budget i : ℕ} {t : List ℕ} {order : Order} (d : Driving t₀ r start goal n budget t order i) where
-    pub drive-sized : TableSizes t r
-    drive-sized = d .sized
-
-    pub drive-arranged : Arranged order n
-    drive-arranged = d .arranged
-
-    pub drive-rests : {s : Progress} {t′ : List ℕ} → Stepped plainSwap plan t r order goal n s t′ → not (s .moved) ≡ true
-        → Driven plainSwap plan t₀ r start goal n budget (record { order = order; swaps = i }) t′
-    drive-rests {s} {t′} p e =
-        let still : s .moved ≡ false = not-true (s .moved) e in
-        record {
-          sliced = rw (p .stays still) (slicing-rests (relay plainSwap r) plan (bytesOf goal n) (d .so-far) (sym (p .moves) ∙ still));
-          arranged = d .arranged;
-          small = d .so-far .within;
-        }
-
-    pub drive-goes : {s : Progress} {t′ : List ℕ} {order′ : Order} → Stepped plainSwap plan t r order goal n s t′ → not (s .moved) ≡ false → i < budget
-        → order′ ≡ s .order → length t′ ≡ length t → Driving t₀ r start goal n budget t′ order′ (i + 1)
-    drive-goes {s} {t′} p e l o m =
-        let gone : s .moved ≡ true = not-false (s .moved) e in
-        rw o (record {
-          so-far = slicing-goes (relay plainSwap r) plan (bytesOf goal n) (d .so-far) l (sym (p .moves) ∙ gone) (p .to gone);
-          arranged = p .arranged;
-          sized = same-sizes t′ t m (d .sized);
-          long = m ∙ d .long;
-        })
-
-    pub drive-ends : budget ≤ i → Driven plainSwap plan t₀ r start goal n budget (record { order = order; swaps = i }) t
-    drive-ends l = record { sliced = slicing-ends (relay plainSwap r) plan (bytesOf goal n) (d .so-far) l; arranged = d .arranged; small = d .so-far .within }
-
-  -- ---- the entry
-
-  -- a slice that was run is the definition's
-  ran-is : (r g : List ℕ) (budget : ℕ) (s x : State) (swaps : ℕ) → swaps ≡ over.made (relay plainSwap r) plan g budget s
-      → x ≡ over.leaves (relay plainSwap r) plan g budget s
-      → record { answer = answerOf swaps (left (x .order) g) (over.judge (relay plainSwap r) plan g x); table = x .table; order = x .order }
-      ≡ ranTo (over.slice (relay plainSwap r) plan g budget s)
-  unfolding ranTo over.slice relay
-  ran-is r g budget s x swaps e f = rw (e, f)
-
-  module _ (t r o g : List ℕ) (starts : Ready plainSwap t r o g) {goal start : Order} (goal-is : goal ≡ loadOrder g) (start-is : start ≡ loadOrder o) where
-    pub slice-done : {budget : ℕ} {end : Reached} {t′ o′ : List ℕ} {a : RunAnswer} → Driven plainSwap plan t r start goal (length o) budget end t′
-        → o′ ≡ bytesOf (end .order) (length o) → a ≡ judgedOn plainSwap plan t′ r (end .order) goal (length o) (end .swaps)
-        → SliceDone plainSwap plan t r o g budget a t′ o′
-    slice-done {budget} {end} {t′} {o′} {a} d p q =
-        let n : ℕ = length o in
-        let s : State = record { table = t; order = o } in
-        let towards : bytesOf goal n ≡ g = goal-bytes t r o g starts goal-is in
-        let from : bytesOf start n ≡ o = start-bytes t r o g starts goal-is start-is in
-        let made : end .swaps ≡ over.made (relay plainSwap r) plan g budget s = rw (towards, from) at (d .sliced .swaps-made) in
-        let left : stateOf t′ (end .order) n ≡ over.leaves (relay plainSwap r) plan g budget s = rw (towards, from) at (d .sliced .state-left) in
-        ap (λ z. record { answer = a; table = t′; order = z }) p
-        ∙ ap (λ z. record { answer = z; table = t′; order = bytesOf (end .order) n }) (rw towards at q)
-        ∙ ran-is r g budget s (stateOf t′ (end .order) n) (end .swaps) made left
-
-module _ (number : ℕ) (t r o g : List ℕ) (budget : ℕ) {v : Verdict} (judged : v ≡ verdictOf (runStages plainSwap number t r o g)) where
-  pub run-refused : {f : Refusal} → v ≡ verdict.Refused f → RunOutcome plainSwap number t r o g budget (Refused f) t o
-  unfolding runOf
-  run-refused e = ap (runJudged plainSwap (planOf number) t r o g budget) (sym e ∙ judged)
-
-  pub run-sliced : (plan : coded.Plan) {a : RunAnswer} {t′ o′ : List ℕ} → v ≡ verdict.Clear → meant plan ≡ planOf number
-      → SliceDone plainSwap (meant plan) t r o g budget a t′ o′ → RunOutcome plainSwap number t r o g budget a t′ o′
-  unfolding runOf
-  run-sliced plan e p d =
-      d
-      ∙ ap (λ z. runJudged plainSwap z t r o g budget verdict.Clear) p
-      ∙ ap (runJudged plainSwap (planOf number) t r o g budget) (sym e ∙ judged)
-
--- ---- to be searched
-
-pub ruleset planning = (few-levels, differ, plan-low, order-inverse, needs)
-
-pub ruleset stepping = (step-arrived, step-stuck, step-made)
-
-pub ruleset judging = (judge-done, judge-stuck, judge-paused)
-
-pub ruleset driving = (drive-begins, drive-sized, drive-arranged, drive-rests, drive-goes, drive-ends, needs)
-
-pub ruleset starting = (target-short, target-permuted, order-short, order-permuted, table-sized, goal-arranged, start-arranged, needs)
+pub run-whole : (number : ℕ) (s : State) (r g : List ℕ) (budget : ℕ) {f : ℕ} {s′ : State} {a : RunAnswer}
+    → Stopped f (runCall plainSwap number s r g budget) s a s′ → f ≡ (budget + 1) * enough → RunOutcome plainSwap number s r g budget a s′
+run-whole number s r g budget {f} {s′} {a} w e =
+    let few = few-stores plainSwap number s r g budget in
+    λ i. record {
+      answer = w .answer (omega (arith, few)) i;
+      state = (w .state ∙ cut-late f (runCall plainSwap number s r g budget) s (omega (arith, few))) i;
+    }

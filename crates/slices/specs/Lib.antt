@@ -1,6 +1,8 @@
 pub mod OneSwap
 pub mod Run
+pub mod Work
 pub mod Answers
+pub mod Stores
 pub mod Theorems
 pub mod Adding
 pub mod Bounds

@@ -1,127 +1,308 @@
--- One law for each way out of a function of the entry, over plain variables: its premises are what is known there.
-use Prim.Native.Nat.{ℕ, _+_, _-_, _≤_, _<_}
-use mathlib.Core.Bool.{true, false, cond}
-use mathlib.Core.List.{List}
-use mathlib.Core.Path.{_≡_, refl, ap, ap₂, sym, _∙_}
+-- One law for each way out of a function, over plain variables: its premises are what is known there.
+use Prim.Native.Nat.{ℕ, _+_, _-_, _*_, _≤_, _<_}
+use mathlib.Core.Bool.{Bool, true, false, cond}
+use mathlib.Core.List.{List, [], _∷_}
+use mathlib.Core.Path.{_≡_, refl, ap, ap₂, sym, _∙_, subst}
+use native.Mathlib.Nat.{le-refl}
 use native.Mathlib.Omega.{arith}
 use borrow.Author.Needs.{needs}
-use borrow.Author.Tests.{le-leb, lt-leb}
-use lib.ListN.{length, getD}
-use Rattle.orders.specs.Permutation.{ceiling, Permutation}
-use Rattle.orders.specs.Exchange.{exchange}
-use Rattle.orders.specs.Order.{loadOrder, exchangedOrder, Inverse}
-use Rattle.orders.specs.Load.{load-variables}
-use Rattle.orders.specs.Arranged.{bytesOf, Arranged, load-bytes, load-arranged, arranged-inverse, exchanged-bytes}
-use Rattle.orders.specs.declared.Order.{Order}
-use Rattle.check_sizes.specs.Sizes.{TableSizes, sized, sizes-if}
-use Rattle.checks.specs.Stages.{refusal, verdictOf, clear-only, row-refuses, row-passes, place-refuses, place-passes}
-use Rattle.checks.specs.Check.{checkStages}
-use Rattle.checks.specs.Usable.{passes-all}
+use borrow.Author.Tests.{leb-true, le-leb, lt-leb}
+use lib.Dec.{leb}
+use lib.ListN.{length, take}
+use lib.Seq.{take-all, length-take-le}
+use Rattle.lists.specs.Apart.{apart}
+use Rattle.lists.specs.Count.{count-small}
+use Rattle.lists.specs.First.{first, Passed, passed-all}
+use Rattle.lists.specs.Which.{which-length}
+use Rattle.diagrams.specs.Layout.{recordSize, mostRecords, records}
+use Rattle.orders.specs.Permutation.{ceiling}
+use Rattle.check_permutation.specs.BadPlace.{badPlace}
+use Rattle.check_sizes.specs.Sizes.{TableSizes, sized, badSizes, sizes-if}
+use Rattle.checks.specs.Stages.{Stage, stageAt, refusal, verdictOf, clear-only, row-refuses, row-passes}
+use Rattle.checks.specs.Stages.{place-refuses, place-passes, stage-refuses, stage-passes}
+use Rattle.checks.specs.Check.{orderStage, tableStages}
 use Rattle.checks.specs.declared.Refusal.{Refusal}
 use Rattle.checks.specs.declared.Verdict.{Verdict}
 use Rattle.checks.specs.declared.Verdict.the-variants as verdict
+use Rattle.undo.specs.Stores.{State, state}
+use Rattle.undo.specs.Calls.{Call, cut, only, only-cut, cut-late}
+use Rattle.undo.specs.Wrote.{Spent, spent-none, spent-as}
+use Rattle.undo.specs.Log.{entrySize, mostLogRecords, changed, changes, entriesNeeded, entriesHeld, swapStores}
+use Rattle.undo.specs.Counts.{enough, swap-few}
+use Rattle.check_log.specs.BadLog.{LogSizes, openStages}
+use Rattle.check_log.specs.Open.{open-sizes}
+use Rattle.check_log.specs.Slots.{slots, Placeable}
+use Rattle.commits.specs.Steps.{Writable, Committed}
 use Rattle.swap_rules.specs.Swap.{xAt, yAt}
-use Rattle.swap_preparing.specs.Table.{tableAfter}
-use Rattle.swaps.specs.Outcome.{wayOf, isClear, TableSwapped, noLevel, swapStages, swapAfter, swapJudged, swapOf, SwapOutcome}
-use Rattle.swaps.specs.Work.{Swappable, SwapDone}
-use Rattle.swaps.specs.Entry.{swap-starts}
+use Rattle.swap_records.specs.declared.Pair.{Pair}
+use Rattle.swap_reckoning.specs.declared.Counts.{Counts}
+use Rattle.swap_preparing.specs.Table as in-pair
+use Rattle.swap_preparing.specs.Table.{neededIn, freeIn, fitsIn}
+use Rattle.swap_preparing.specs.Prepared.{CountsOf, Prepared, Preparing}
+use Rattle.swaps.specs.Outcome.{lack, short, tableAfter, entriesFor, logWay, wayOf, isClear, way-clear, noLevel, storeStages, swapStages}
+use Rattle.swaps.specs.Outcome.{swapWay, swapAfter, swapJudged, swapCall, SwapOutcome, SwapStopped}
+use Rattle.swaps.specs.Work.{PairAt, wayBy, Reckoned, Storable, Swapped, Swappable, answerBy}
+use Rattle.swaps.specs.Bytes.{length-after}
+use Rattle.swaps.specs.Entry.{swap-starts, clear-fits, clear-then, store-usable, few-stores}
 use Rattle.swaps.specs.declared.Lack.{Lack}
+use Rattle.swaps.specs.declared.Short.{Short}
 use Rattle.swaps.specs.declared.Way.{Way}
 use Rattle.swaps.specs.declared.Way.the-variants as way
+use Rattle.swaps.specs.declared.Swapping.{Swapping}
 use Rattle.swaps.specs.declared.SwapAnswer.{SwapAnswer}
-use Rattle.swaps.specs.declared.SwapAnswer.the-variants.{Made, NoRoom, Refused}
+use Rattle.swaps.specs.declared.SwapAnswer.the-variants.{Made, NoRoom, LogShort, Refused}
+
+-- ---- room, and a log that is long enough
+
+module _ (k : ℕ) (q : Counts) (log : Way) where
+  pub room-lacks : q .slots < q .needed → way.NoRoom (lack k (q .needed) (q .free)) ≡ wayBy k q log
+  unfolding wayBy
+  room-lacks h = rw (lt-leb (q .needed) (q .slots) h)
+
+  pub room-clears : {w : Way} → q .needed ≤ q .slots → w ≡ log → w ≡ wayBy k q log
+  unfolding wayBy
+  room-clears h e = rw (le-leb (q .needed) (q .slots) h) e
+
+pub log-shorts : (k entries held : ℕ) → held < entries → way.LogShort (short k entries held) ≡ logWay k entries held
+log-shorts k entries held h = rw (lt-leb entries held h)
+
+pub log-clears : (k entries held : ℕ) → entries ≤ held → way.Clear ≡ logWay k entries held
+log-clears k entries held h = rw (le-leb entries held h)
+
+pub room-logs : (k : ℕ) (q : Counts) (t u : List ℕ) (held : ℕ) {n : ℕ} {w : Way} → q .needed ≤ q .slots → n ≡ entriesNeeded t u → w ≡ logWay k n held
+    → w ≡ wayBy k q (logWay k (entriesNeeded t u) held)
+room-logs k q t u held h e l = room-clears k q (logWay k (entriesNeeded t u) held) h (l ∙ ap (λ i. logWay k i held) e)
+
+-- a log with an entry for every record is never short
+few-entries : (t u : List ℕ) → entriesNeeded t u ≤ records t + 1
+unfolding entriesNeeded
+few-entries t u = omega (arith, which-length (changed t u) (records t), count-small (changed t u) (records t))
+
+-- ---- the reckoning of a swap
+
+module _ {t r o : List ℕ} {k : ℕ} {p : Pair} (P : PairAt o k p) where
+  pub preparing : TableSizes t r → Preparing t r p
+  preparing z = record { sized = z; small-x = P .small-x; small-y = P .small-y }
+
+  module _ {q : Counts} (C : CountsOf t r p q) where
+    fits-is : leb (q .needed) (q .slots) ≡ fitsIn t r (xAt o k) (yAt o k)
+    fits-is = C .fit-is ∙ ap₂ (fitsIn t r) (P .is-x) (P .is-y)
+
+    lack-is : lack k (q .needed) (q .free) ≡ lack k (neededIn t (xAt o k) (yAt o k)) (freeIn t)
+    lack-is = ap₂ (lack k) (C .needed-is ∙ ap₂ (neededIn t) (P .is-x) (P .is-y)) (C .free-is)
+
+    -- where there is room the log decides
+    way-is : (held : ℕ) (log : Way) → (leb (q .needed) (q .slots) ≡ true → log ≡ logWay k (entriesFor t r o k) held) → wayBy k q log ≡ wayOf t r o held k
+    unfolding wayBy wayOf
+    way-is held log f = rw (← fits-is, ← lack-is) (go (leb (q .needed) (q .slots)) f)
+      where
+        go : (b : Bool) → (b ≡ true → log ≡ logWay k (entriesFor t r o k) held)
+            → cond b log (way.NoRoom (lack k (q .needed) (q .free))) ≡ cond b (logWay k (entriesFor t r o k) held) (way.NoRoom (lack k (q .needed) (q .free)))
+        go true f = f refl
+        go false f = refl
+
+    pub asked-room : (held : ℕ) {w : Way} → w ≡ wayBy k q way.Clear → records t < held → w ≡ wayOf t r o held k
+    asked-room held e h =
+        e ∙ way-is held way.Clear (λ b. log-clears k (entriesFor t r o k) held (omega (arith, few-entries t (tableAfter t r o k))))
+
+  pub asked : {q : Counts} {image : List ℕ} (held : ℕ) {w : Way} → Prepared t r p q image → w ≡ wayBy k q way.Clear → records t < held → w ≡ wayOf t r o held k
+  asked held A = asked-room (A .counts) held
+
+  pub reckoned : {q : Counts} {image : List ℕ} {held : ℕ} {w : Way} → Prepared t r p q image → w ≡ wayBy k q (logWay k (entriesNeeded t image) held)
+      → (start : List ℕ) → length image ≡ length start → length start ≡ length t → Reckoned t r o held k w image
+  reckoned {q} {image} {held} {w} A e start long same = record { answer = answer; image-is = λ c. image-after (fit c) }
+    where
+      image-after : leb (q .needed) (q .slots) ≡ true → image ≡ tableAfter t r o k
+      image-after b =
+          sym (take-all (length t) image (omega arith))
+          ∙ A .table (leb-true (q .needed) (q .slots) b) (omega arith)
+          ∙ ap₂ (in-pair.tableAfter t r) (P .is-x) (P .is-y)
+
+      answer : w ≡ wayOf t r o held k
+      answer = e ∙ way-is (A .counts) held (logWay k (entriesNeeded t image) held) (λ b. ap (λ u. logWay k (entriesNeeded t u) held) (image-after b))
+
+      fit : isClear w ≡ true → leb (q .needed) (q .slots) ≡ true
+      fit c = fits-is (A .counts) ∙ clear-fits t r o held k (ap isClear (sym answer) ∙ c)
+
+-- the front of the work area is an image as long as the table
+pub image-long : (t r area : List ℕ) → TableSizes t r → length area ≡ recordSize * mostRecords → length t ≡ length (take (length t) area)
+image-long t r area z e = sym (length-take-le (length t) area (omega (arith, z .few-records)))
+
+pub image-same : (t r area : List ℕ) → TableSizes t r → length area ≡ recordSize * mostRecords → length (take (length t) area) ≡ length t
+image-same t r area z e = sym (image-long t r area z e)
+
+pub reckoned-way : {t r o image : List ℕ} {held k : ℕ} {w : Way} → Reckoned t r o held k w image → w ≡ wayOf t r o held k
+reckoned-way R = R .answer
+
+-- ---- the swap of the three buffers
+
+module _ {t r o log : List ℕ} {k : ℕ} (able : Storable t r o log k) where
+  pub stored-sized : TableSizes t r
+  stored-sized = able .sized
+
+  pub stored-level : k + 1 < length o
+  stored-level = able .level
+
+  pub stored-log : LogSizes log
+  stored-log = able .log-sized
+
+  pub stored-long : (area : List ℕ) → length area ≡ recordSize * mostRecords → length t ≡ length (take (length t) area)
+  stored-long area = image-long t r area (able .sized)
+
+  pub stored-same : (area : List ℕ) → length area ≡ recordSize * mostRecords → length (take (length t) area) ≡ length t
+  stored-same area = image-same t r area (able .sized)
+
+  module _ {w : Way} {image : List ℕ} (R : Reckoned t r o (entriesHeld log) k w image) where
+    met : w ≡ swapWay (state t o log) r k
+    met = R .answer
+
+    -- what stands in the way, and no store
+    pub swapped-lacks : {f : ℕ} {l : Lack} → w ≡ way.NoRoom l → Swapped f (state t o log) r k (record { way = way.NoRoom l; fuel = f }) (state t o log)
+    swapped-lacks e = record { answer = sym e ∙ met; spent = spent-none }
+
+    pub swapped-short : {f : ℕ} {l : Short} → w ≡ way.LogShort l → Swapped f (state t o log) r k (record { way = way.LogShort l; fuel = f }) (state t o log)
+    swapped-short e = record { answer = sym e ∙ met; spent = spent-none }
+
+    -- nothing: the image is the table afterwards, and the log holds the entries
+    module _ (e : w ≡ way.Clear) where
+      new-table : image ≡ tableAfter t r o k
+      new-table = R .image-is (ap isClear e)
+
+      clear : isClear (wayOf t r o (entriesHeld log) k) ≡ true
+      clear = ap isClear (sym met ∙ e)
+
+      pub writable : Writable t image o log k
+      writable =
+          let entries : entriesNeeded t image ≤ entriesHeld log = rw new-table (clear-then t r o (entriesHeld log) k clear .1) in
+          let sizes = able .log-sized in
+          record {
+            loggable = record { long = long; few-records = omega (arith, able .sized .few-records); room = entries };
+            level = able .level;
+            small-level = omega (arith, able .level, able .few-levels);
+            seal = sizes .some;
+            few-entries = omega (arith, sizes .few);
+          }
+        where
+          long : length t ≤ length image
+          long = rw (new-table, length-after t r (xAt o k) (yAt o k) (able .sized .whole-records)) (le-refl (length t))
+
+      pub swapped-made : {f left : ℕ} {t′ o′ log′ : List ℕ} → Committed t o log image k f t′ o′ log′ left
+          → Swapped f (state t o log) r k (record { way = way.Clear; fuel = left }) (state t′ o′ log′)
+      swapped-made c = record { answer = sym e ∙ met; spent = spent-as c (ap (λ u. swapStores (state t o log) u k) new-table) }
+
+pub held-known : {t r o image : List ℕ} {held k : ℕ} {w : Way} (log : List ℕ) → held ≡ entriesHeld log → Reckoned t r o held k w image
+    → Reckoned t r o (entriesHeld log) k w image
+held-known {t} {r} {o} {image} {held} {k} {w} log e R = subst (λ h. Reckoned t r o h k w image) e R
+
+pub ruleset stored = (stored-long, stored-same, needs)
 
 -- ---- the verdict
 
-module _ (t r o : List ℕ) (k : ℕ) {v : Verdict} (judged : v ≡ verdictOf (checkStages t r o)) where
-  pub check-refuses : (f : Refusal) → v ≡ verdict.Refused f → verdict.Refused f ≡ verdictOf (swapStages t r o k)
+module _ (t r o log : List ℕ) {b : Bool} (sizes : b ≡ badSizes t r o) where
+  pub sizes-refuse : b ≡ true → verdict.Refused (refusal 1 0) ≡ verdictOf (storeStages t r o log)
+  unfolding storeStages
+  sizes-refuse h = place-refuses 1 0 (badSizes t r o) b _ sizes h
+
+  module _ (h : b ≡ false) where
+    pub placeable : {m : ℕ} → m ≡ records t → Placeable m (length o)
+    placeable {m} e = let w = sizes-if t r o (sym sizes ∙ h) in (w .some-variables, omega (arith, w .few-records, w .few-variables))
+
+    pub right-sizes : badSizes t r o ≡ false
+    right-sizes = sym sizes ∙ h
+
+    pub few-levels : length o ≤ ceiling
+    few-levels = sizes-if t r o (sym sizes ∙ h) .few-variables
+
+    module _ {m : ℕ} (e : m ≡ records t) {v : Verdict} (judged : v ≡ verdictOf (openStages log m (length o))) where
+      log-is : v ≡ verdictOf (openStages log (records t) (length o))
+      log-is = judged ∙ ap (λ n. verdictOf (openStages log n (length o))) e
+
+      pub log-refuses : (f : Refusal) → v ≡ verdict.Refused f → verdict.Refused f ≡ verdictOf (storeStages t r o log)
+      unfolding storeStages
+      log-refuses f q = place-passes 1 0 (badSizes t r o) b _ _ sizes h (row-refuses (openStages log (records t) (length o)) _ f log-is q)
+
+      module _ (clear : v ≡ verdict.Clear) where
+        after-log : (w : Verdict) → w ≡ verdictOf (orderStage 2 o ∷ tableStages t r o) → w ≡ verdictOf (storeStages t r o log)
+        unfolding storeStages
+        after-log w q = place-passes 1 0 (badSizes t r o) b w _ sizes h (row-passes (openStages log (records t) (length o)) _ log-is clear q)
+
+        pub order-refuses : (x : ℕ) → x ≡ first (badPlace o) (length o) → x < length o → verdict.Refused (refusal 2 x) ≡ verdictOf (storeStages t r o log)
+        order-refuses x q l = after-log _ (stage-refuses 2 (length o) x (badPlace o) _ q l refl)
+
+        pub table-judged : (x : ℕ) {w : Verdict} → x ≡ first (badPlace o) (length o) → length o ≤ x → w ≡ verdictOf (tableStages t r o)
+            → w ≡ verdictOf (storeStages t r o log)
+        table-judged x {w} q l z = after-log w (stage-passes 2 (length o) x (badPlace o) w _ q l refl z)
+
+pub ruleset stages-first = (sizes-refuse, placeable, right-sizes, few-levels, log-refuses, order-refuses, table-judged, passed-all, needs)
+
+module _ (t r o log : List ℕ) (k : ℕ) {v : Verdict} (judged : v ≡ verdictOf (storeStages t r o log)) where
+  pub store-refuses : (f : Refusal) → v ≡ verdict.Refused f → verdict.Refused f ≡ verdictOf (swapStages t r o log k)
   unfolding swapStages
-  check-refuses f h = row-refuses (checkStages t r o) _ f judged h
+  store-refuses f h = row-refuses (storeStages t r o log) _ f judged h
 
   module _ (clear : v ≡ verdict.Clear) where
-    pub some-level : 1 ≤ length o
-    some-level = sizes-if t r o (passes-all t r o (clear-only (checkStages t r o) (sym judged ∙ clear)) .c1) .some-variables
-
-    pub no-level : length o - 1 ≤ k → verdict.Refused (refusal 12 k) ≡ verdictOf (swapStages t r o k)
+    pub no-level : length o - 1 ≤ k → verdict.Refused (refusal 12 k) ≡ verdictOf (swapStages t r o log k)
     unfolding swapStages
     no-level h =
-        row-passes (checkStages t r o) _ judged clear (place-refuses 12 k (noLevel o k) true verdict.Clear (sym (le-leb (length o - 1) k h)) refl)
+        row-passes (storeStages t r o log) _ judged clear (place-refuses 12 k (noLevel o k) true verdict.Clear (sym (le-leb (length o - 1) k h)) refl)
 
-    pub two-levels : k < length o - 1 → verdict.Clear ≡ verdictOf (swapStages t r o k)
+    pub two-levels : k < length o - 1 → verdict.Clear ≡ verdictOf (swapStages t r o log k)
     unfolding swapStages
     two-levels h =
         let there : false ≡ noLevel o k = sym (lt-leb (length o - 1) k h) in
-        row-passes (checkStages t r o) _ judged clear (place-passes 12 k (noLevel o k) false verdict.Clear verdict.Clear there refl refl)
+        row-passes (storeStages t r o log) _ judged clear (place-passes 12 k (noLevel o k) false verdict.Clear verdict.Clear there refl refl)
 
--- ---- the swap of an accepted table
+pub some-level : (t r o log : List ℕ) {v : Verdict} → v ≡ verdictOf (storeStages t r o log) → v ≡ verdict.Clear → 1 ≤ length o
+some-level t r o log judged clear = store-usable t r o log (clear-only (storeStages t r o log) (sym judged ∙ clear)) .0 .sizes .some-variables
 
-module _ (t r o : List ℕ) (k : ℕ) (able : Swappable t r o k) where
-  pub order-short : length o ≤ ceiling
-  order-short = able .usable .sizes .few-variables
-
-  pub order-permuted : Permutation o
-  order-permuted = able .usable .order
-
-  pub table-sized : TableSizes t r
-  table-sized = sized (able .usable .sizes)
-
-  pub level-low : k + 1 < ceiling
-  level-low = omega (arith, able .level, able .usable .sizes .few-variables)
-
-  module _ {q : Order} (loaded : q ≡ loadOrder o) where
-    arranged : Arranged q (length o)
-    arranged = rw loaded (load-arranged o (able .usable .order) (able .usable .sizes .few-variables))
-
-    pub inverse : Inverse q
-    inverse = arranged-inverse arranged
-
-    variable-is : (i : ℕ) → i < length o → getD (q .variables) i 0 ≡ getD o i 0
-    variable-is i b = ap (λ (z : Order). getD (z .variables) i 0) loaded ∙ load-variables o i (able .usable .sizes .few-variables) b
-
-    x-is : xAt (q .variables) k ≡ xAt o k
-    x-is = variable-is k (omega (arith, able .level))
-
-    y-is : yAt (q .variables) k ≡ yAt o k
-    y-is = variable-is (k + 1) (able .level)
-
-    same-way : wayOf t r (q .variables) k ≡ wayOf t r o k
-    unfolding wayOf
-    same-way = rw (x-is, y-is)
-
-    exchanged-is : {q′ : Order} {o′ : List ℕ} → q′ ≡ exchangedOrder q k → o′ ≡ bytesOf q′ (length o) → o′ ≡ exchange o k
-    exchanged-is e w =
-        let same : bytesOf q (length o) ≡ o = ap (λ (z : Order). bytesOf z (length o)) loaded ∙ load-bytes o (able .usable .sizes .few-variables) in
-        w ∙ ap (λ (z : Order). bytesOf z (length o)) e ∙ exchanged-bytes arranged k (able .level) ∙ ap (λ s. exchange s k) same
-
-    module _ {w : Way} {t′ : List ℕ} (out : TableSwapped t r (q .variables) k w t′) where
-      met : w ≡ wayOf t r o k
-      met = out .answer ∙ same-way
-
-      pub swap-none : {l : Lack} → w ≡ way.NoRoom l → SwapDone t r o k (NoRoom l) t′ o
-      swap-none {l} e =
-          let same : t′ ≡ t = out .table ∙ ap (λ (z : Way). cond (isClear z) (tableAfter t r (xAt (q .variables) k) (yAt (q .variables) k)) t) e in
-          ap (λ z. record { answer = NoRoom l; table = z; order = o }) same ∙ ap (swapAfter t r o k) (sym e ∙ met)
-
-      pub swap-made : {q′ : Order} {o′ : List ℕ} → w ≡ way.Clear → q′ ≡ exchangedOrder q k → o′ ≡ bytesOf q′ (length o) → SwapDone t r o k Made t′ o′
-      swap-made {q′} {o′} e p b =
-          let new : t′ ≡ tableAfter t r (xAt (q .variables) k) (yAt (q .variables) k) =
-          out .table ∙ ap (λ (z : Way). cond (isClear z) (tableAfter t r (xAt (q .variables) k) (yAt (q .variables) k)) t) e in
-          ap (λ z. record { answer = Made; table = z; order = o′ }) (new ∙ ap₂ (tableAfter t r) x-is y-is)
-          ∙ ap (λ z. record { answer = Made; table = tableAfter t r (xAt o k) (yAt o k); order = z }) (exchanged-is p b)
-          ∙ ap (swapAfter t r o k) (sym e ∙ met)
-
-pub ruleset able = (order-short, order-permuted, table-sized, level-low, inverse, swap-none, swap-made, needs)
+pub ruleset stages-last = (store-refuses, some-level, no-level, two-levels, needs)
 
 -- ---- the entry
 
-module _ (t r o : List ℕ) (k : ℕ) {v : Verdict} (judged : v ≡ verdictOf (swapStages t r o k)) where
-  pub swap-able : v ≡ verdict.Clear → Swappable t r o k
-  swap-able e = let (u, l) = swap-starts t r o k (clear-only (swapStages t r o k) (sym judged ∙ e)) in record { usable = u; level = l }
+pub by-clear : {w : Way} → w ≡ way.Clear → Made ≡ answerBy w
+by-clear e = ap answerBy (sym e)
 
-  pub swap-refused : {f : Refusal} → v ≡ verdict.Refused f → SwapOutcome t r o k (Refused f) t o
-  unfolding swapOf
-  swap-refused e = ap (swapJudged t r o k) (sym e ∙ judged)
+pub by-lack : {w : Way} {l : Lack} → w ≡ way.NoRoom l → NoRoom l ≡ answerBy w
+by-lack e = ap answerBy (sym e)
 
-  pub swap-accepted : {a : SwapAnswer} {t′ o′ : List ℕ} → v ≡ verdict.Clear → SwapDone t r o k a t′ o′ → SwapOutcome t r o k a t′ o′
-  unfolding swapOf
-  swap-accepted e d = d ∙ ap (swapJudged t r o k) (sym e ∙ judged)
+pub by-short : {w : Way} {l : Short} → w ≡ way.LogShort l → LogShort l ≡ answerBy w
+by-short e = ap answerBy (sym e)
+
+pub ruleset by-way = (by-clear, by-lack, by-short, needs)
+
+module _ (t r o log : List ℕ) (k : ℕ) {v : Verdict} (judged : v ≡ verdictOf (swapStages t r o log k)) where
+  abbrev s : State
+  s = state t o log
+
+  pub swap-refused : {f : ℕ} {w : Refusal} → v ≡ verdict.Refused w → SwapStopped f s r k (Refused w) s
+  unfolding swapCall
+  swap-refused {f} {w} e =
+      let c : only (Refused w) ≡ swapCall s r k = ap (swapJudged s r k) (sym e ∙ judged) in
+      record { answer = ap (λ (x : Call SwapAnswer). x .answer) c; state = sym (only-cut f (Refused w) s) ∙ ap (λ (x : Call SwapAnswer). cut f x s) c }
+
+  module _ (e : v ≡ verdict.Clear) where
+    pub swap-storable : Storable t r o log k
+    swap-storable =
+        let w = swap-starts t r o log k (clear-only (swapStages t r o log k) (sym judged ∙ e)) in
+        record { sized = sized (w .usable .sizes); level = w .level; few-levels = w .usable .sizes .few-variables; log-sized = open-sizes (w .log-open) }
+
+    pub swap-done : {f : ℕ} {a : Swapping} {b : SwapAnswer} {s′ : State} → Swapped f s r k a s′ → b ≡ answerBy (a .way) → SwapStopped f s r k b s′
+    unfolding swapCall
+    swap-done {f} {a} {b} {s′} w q =
+        let c : swapAfter s r k (a .way) ≡ swapCall s r k = ap (swapAfter s r k) (w .answer) ∙ ap (swapJudged s r k) (sym e ∙ judged) in
+        record {
+          answer = q ∙ by (a .way) ∙ ap (λ (x : Call SwapAnswer). x .answer) c;
+          state = w .spent .state ∙ ap (λ (x : Call SwapAnswer). cut f x s) c;
+        }
+      where
+        by : (w : Way) → answerBy w ≡ swapAfter s r k w .answer
+        by way.Clear = refl
+        by (way.NoRoom l) = refl
+        by (way.LogShort l) = refl
+
+pub ruleset swapping = (swap-refused, swap-storable, swap-done, needs)
+
+-- ---- with enough fuel it isn't cut
+
+pub swap-whole : {s s′ : State} {r : List ℕ} {k : ℕ} {a : SwapAnswer} → SwapStopped enough s r k a s′ → SwapOutcome s r k a s′
+swap-whole {s} {s′} {r} {k} {a} w = λ i. record { answer = w .answer i; state = (w .state ∙ cut-late enough (swapCall s r k) s (few-stores s r k)) i }

@@ -47,7 +47,7 @@ module _ (t r : List ℕ) (x y : ℕ) where
   records-after : records (tableAfter t r x y) ≡ records t
   records-after = omega (arith, bytes-of)
 
-  length-after : length t % recordSize ≡ 0 → length (tableAfter t r x y) ≡ length t
+  pub length-after : length t % recordSize ≡ 0 → length (tableAfter t r x y) ≡ length t
   length-after whole = omega (arith, bytes-of)
 
 -- ---- the used records, in the bytes and in the records

@@ -189,7 +189,11 @@ fn hold_to_maker(
     random: &mut Random,
 ) -> Result<Answer, String> {
     let kind = sample.kind;
-    let answer = compared(&mut sample.input.clone(), question, random)
+    let mut input = match question.has_log() {
+        true => sample.input.clone().with_enough_log(),
+        false => sample.input.clone(),
+    };
+    let answer = compared(&mut input, question, random)
         .map_err(|report| format!("kind {kind}\n{report}"))?;
     if sample.is_answered_by(answer) {
         return Ok(answer);

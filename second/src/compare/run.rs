@@ -1,22 +1,26 @@
 //! Run, whole and cut into slices, by every plan, with good and bad targets and
-//! with budgets of every size.
+//! logs, and with budgets of every size.
 
 use super::{
-    compared, counts_kept_lines, hold_to_counts_kept, name, past, random_questions, KeptCounts,
-    FEWEST_OF_EACH_ANSWER,
+    compared, counts_kept_lines, hold_to_counts_kept, name, past, random_questions, with_log,
+    KeptCounts, FEWEST_OF_EACH_ANSWER,
 };
+use crate::commit::entries;
 use crate::generate::{big, busy, random_order, roomy};
 use crate::hold::hex;
 use crate::input::Input;
 use crate::kept::{no_room_keeps, run_keeps};
 use crate::layout::MOST_RECORDS;
+use crate::log_kept::short_keeps;
+use crate::logs::random_log;
 use crate::model::{answer, Answer, Question};
 use crate::plans::{plan, Plan, PLANS};
 use crate::random::Random;
 use crate::sample::sample;
+use crate::swap::swap;
 use crate::tally::Tally;
 
-pub const QUESTIONS: u64 = 24_000;
+pub const QUESTIONS: u64 = 36_000;
 const FIRST_SEED: u64 = 20_600_000;
 const FEWEST: usize = 1_000;
 const KEPT: KeptCounts = KeptCounts {
@@ -24,8 +28,12 @@ const KEPT: KeptCounts = KeptCounts {
     fewest: 2_000,
 };
 const FEWEST_OF_EACH_PLAN: usize = 3_000;
+/// Some swaps before it must have had a log that was long enough for them.
+const FEWEST_SHORT_AFTER_DYING: usize = 20;
 /// A run is cut into so many slices at most.
 const MOST_SLICES: usize = 6;
+/// So many swaps tell how long a log may be.
+const MOST_SOUNDED: usize = 12;
 
 pub fn compare(count: u64) -> Result<Tally, String> {
     let tally = Tally::new("random runs, each whole and in slices", 20_000)
@@ -38,16 +46,24 @@ pub fn compare(count: u64) -> Result<Tally, String> {
         .line("no room after some swaps", FEWEST_OF_EACH_ANSWER)
         .line("no room with the budget just spent", FEWEST_OF_EACH_ANSWER)
         .line("no room with budget 0", FEWEST_OF_EACH_ANSWER)
+        .line("log short after some swaps", FEWEST_OF_EACH_ANSWER)
+        .line(
+            "log short with the budget just spent",
+            FEWEST_OF_EACH_ANSWER,
+        )
+        .line("log short with budget 0", FEWEST_OF_EACH_ANSWER)
         .line(TAKES_DYING, FEWEST)
         .line(&after_dying("done"), FEWEST_OF_EACH_ANSWER)
         .line(&after_dying("paused"), FEWEST_OF_EACH_ANSWER)
         .line(&after_dying("no room"), FEWEST_OF_EACH_ANSWER)
+        .line(&after_dying("log short"), FEWEST_SHORT_AFTER_DYING)
         .line("not refused, with 4,096 records", 20)
         .refusals(&[1, 2, 3, 4, 5, 6, 7, 8, 9, 13], FEWEST_OF_EACH_ANSWER)
         .line(LOWER_REFUSAL, FEWEST_OF_EACH_ANSWER)
         .line("swaps in all", 50_000)
         .line(SWAPS_THAT_TAKE_DYING, FEWEST);
-    let tally = counts_kept_lines(tally, &KEPT, &["done", "paused", "no room", "refused"]);
+    let answers = ["done", "paused", "no room", "log short", "refused"];
+    let tally = counts_kept_lines(with_log::lines(tally), &KEPT, &answers);
     let tally = PLANS.iter().fold(tally, |tally, plan| {
         let of_plan = |what| of_plan(plan, what);
         tally
@@ -55,6 +71,7 @@ pub fn compare(count: u64) -> Result<Tally, String> {
             .line(&of_plan("done"), FEWEST_OF_EACH_ANSWER)
             .line(&of_plan("paused"), FEWEST_OF_EACH_ANSWER)
             .line(&of_plan("no room"), FEWEST_OF_EACH_ANSWER)
+            .line(&of_plan("log short"), FEWEST_OF_EACH_ANSWER)
             .line(&of_plan(ITS_OWN), FEWEST_OF_EACH_ANSWER)
     });
     random_questions(tally, FIRST_SEED, count, one)
@@ -89,11 +106,14 @@ fn one(random: &mut Random, tally: &mut Tally) -> Result<(), String> {
         plan: random_plan(random),
         before,
     };
+    let job = job.with_log(random);
     let budget = random_budget(&job, random);
     let mut after = job.before.clone();
-    let answer = compared(&mut after, &job.slice(budget), random)?;
+    let question = job.slice(budget);
+    let answer = compared(&mut after, &question, random)?;
     tally.call();
     tally.count(&name(answer));
+    with_log::count(&job.before, &question, answer, tally);
     hold_to_counts_kept(&KEPT, &job.before, &after, answer, random, tally)?;
     if let Answer::Refused(refusal) = answer {
         let besides = refusal.number != 13 && plan(job.plan).is_none();
@@ -122,6 +142,39 @@ impl Job {
             budget,
         }
     }
+
+    /// Long enough for all of its first swaps, or too short for some.
+    fn with_log(self, random: &mut Random) -> Job {
+        let log = random_log(&self.before, &self.needs(), random);
+        Job {
+            before: self.before.with_log(log),
+            ..self
+        }
+    }
+
+    /// How many entries each of the first swaps needs; none where it is refused
+    /// with any log.
+    fn needs(&self) -> Vec<usize> {
+        let mut state = self.before.clone().with_enough_log();
+        let Some(plan) = plan(self.plan) else {
+            return Vec::new();
+        };
+        if let Answer::Refused(_) = answer(&mut state, &self.slice(0)) {
+            return Vec::new();
+        }
+        let mut needs = Vec::new();
+        while needs.len() < MOST_SOUNDED {
+            let next = (plan.next)(&state.order, &self.target);
+            let Some((level, made)) =
+                next.and_then(|level| Some((level, swap(&state, level).ok()?)))
+            else {
+                break;
+            };
+            needs.push(entries(&state, &made.after, level).len());
+            state = made.after;
+        }
+        needs
+    }
 }
 
 /// How many of its swaps took a dying record.
@@ -134,8 +187,10 @@ fn keeps(
 ) -> Result<usize, String> {
     let swaps = swaps(answer);
     let took_dying = run_keeps(&job.before, &job.target, plan, swaps, after, random)?;
-    if let Answer::Stuck { lack, .. } = answer {
-        no_room_keeps(after, lack, random)?;
+    match answer {
+        Answer::Stuck { lack, .. } => no_room_keeps(after, lack, random)?,
+        Answer::OutOfLog { short, .. } => short_keeps(after, short)?,
+        _ => {}
     }
     Ok(took_dying)
 }
@@ -192,21 +247,23 @@ fn cut(budget: u32, random: &mut Random) -> Vec<u32> {
     slices
 }
 
-fn swaps(answer: Answer) -> u32 {
+pub fn swaps(answer: Answer) -> u32 {
     match answer {
-        Answer::Done { swaps, .. } | Answer::Paused { swaps, .. } | Answer::Stuck { swaps, .. } => {
-            swaps
-        }
+        Answer::Done { swaps, .. }
+        | Answer::Paused { swaps, .. }
+        | Answer::Stuck { swaps, .. }
+        | Answer::OutOfLog { swaps, .. } => swaps,
         other => panic!("a run that is not refused is never answered {other:?}"),
     }
 }
 
 /// The answer with another number of swaps.
-fn with_swaps(answer: Answer, swaps: u32) -> Answer {
+pub fn with_swaps(answer: Answer, swaps: u32) -> Answer {
     match answer {
         Answer::Done { left, .. } => Answer::Done { swaps, left },
         Answer::Paused { left, .. } => Answer::Paused { swaps, left },
         Answer::Stuck { left, lack, .. } => Answer::Stuck { swaps, left, lack },
+        Answer::OutOfLog { left, short, .. } => Answer::OutOfLog { swaps, left, short },
         other => other,
     }
 }
@@ -227,10 +284,11 @@ fn count(job: &Job, plan: &Plan, budget: u32, answer: Answer, tally: &mut Tally)
             tally.count_if(swaps == 0, "done without a swap");
         }
         Answer::Paused { .. } => tally.count_if(budget == 0, "paused with budget 0"),
-        _ => {
-            tally.count_if(swaps > 0, "no room after some swaps");
-            tally.count_if(just_spent, "no room with the budget just spent");
-            tally.count_if(budget == 0, "no room with budget 0");
+        other => {
+            let answer = name(other);
+            tally.count_if(swaps > 0, &format!("{answer} after some swaps"));
+            tally.count_if(just_spent, &format!("{answer} with the budget just spent"));
+            tally.count_if(budget == 0, &format!("{answer} with budget 0"));
         }
     }
     let full = job.before.store().record_count() == MOST_RECORDS;
@@ -300,7 +358,7 @@ fn random_plan(random: &mut Random) -> u32 {
 }
 
 /// 0, small, huge, or near the number of swaps that the run can make before it
-/// is done or without room.
+/// is done, without room or out of log.
 fn random_budget(job: &Job, random: &mut Random) -> u32 {
     let enough = match answer(&mut job.before.clone(), &job.slice(u32::MAX)) {
         Answer::Refused(_) => 3,

@@ -1,21 +1,25 @@
 //! Swap, on tables with few, some and many free records, and damaged ones,
-//! with good and bad levels.
+//! with good and bad levels, and with good and bad logs of all lengths.
 
 use super::{
-    compared, counts_kept_lines, hold_to_counts_kept, name, past, random_questions, KeptCounts,
-    FEWEST_OF_EACH_ANSWER,
+    compared, counts_kept_lines, hold_to_counts_kept, name, past, random_questions, with_log,
+    KeptCounts, FEWEST_OF_EACH_ANSWER,
 };
+use crate::commit::entries;
 use crate::generate::{accepted, big, busy, with_free};
 use crate::input::Input;
 use crate::kept::{no_room_keeps, swap_keeps};
 use crate::layout::{Reference, MOST_RECORDS, MOST_ROOTS};
+use crate::log::Log;
+use crate::log_kept::{log_keeps, short_keeps};
+use crate::logs::random_log;
 use crate::model::{answer, Answer, Question};
 use crate::random::Random;
 use crate::sample::sample;
 use crate::swap::{swap, Lack, Swap};
 use crate::tally::Tally;
 
-pub const QUESTIONS: u64 = 30_000;
+pub const QUESTIONS: u64 = 36_000;
 const FIRST_SEED: u64 = 20_500_000;
 const FEWEST: usize = 1_000;
 const FEWEST_FULL_TAKEN: usize = 20;
@@ -42,7 +46,10 @@ pub fn compare(count: u64) -> Result<Tally, String> {
         .line("not refused, with 4,096 records", FEWEST_OF_EACH_ANSWER)
         .line(FULL_TAKEN, FEWEST_FULL_TAKEN)
         .refusals(&[1, 2, 4, 5, 6, 7, 8, 9, 12], FEWEST_OF_EACH_ANSWER);
-    let tally = counts_kept_lines(tally, &KEPT, &["made", "no room", "refused"]);
+    let tally = with_log::lines(tally)
+        .line(JUST_ENOUGH_LOG, FEWEST)
+        .line(MORE_LOG, FEWEST);
+    let tally = counts_kept_lines(tally, &KEPT, &["made", "no room", "log short", "refused"]);
     random_questions(tally, FIRST_SEED, count, one)
 }
 
@@ -52,6 +59,8 @@ const SOME_TAKEN: &str = "made with some dying taken, some freed";
 const JUST_THE_FREE: &str = "made with all free taken, no dying one";
 const JUST_ONE_DYING: &str = "made with all free taken, one dying of some";
 const ALL_TAKEN: &str = "made with all free and all dying taken";
+const JUST_ENOUGH_LOG: &str = "made with just as much log as it needs";
+const MORE_LOG: &str = "made with more log than it needs";
 const FULL_TAKEN: &str = "a dying record taken, with 4,096 records";
 
 fn one(random: &mut Random, tally: &mut Tally) -> Result<(), String> {
@@ -67,26 +76,54 @@ fn one(random: &mut Random, tally: &mut Tally) -> Result<(), String> {
     } else {
         before
     };
+    let log = random_log(&before, &needs(&before, level), random);
+    let before = before.with_log(log);
+    let question = Question::Swap { level };
     let mut after = before.clone();
-    let answer = compared(&mut after, &Question::Swap { level }, random)?;
+    let answer = compared(&mut after, &question, random)?;
     tally.call();
     tally.count(&name(answer));
+    with_log::count(&before, &question, answer, tally);
     hold_to_counts_kept(&KEPT, &before, &after, answer, random, tally)?;
     if let Answer::Refused(_) = answer {
         return Ok(());
     }
     let full = before.store().record_count() == MOST_RECORDS;
     tally.count_if(full, "not refused, with 4,096 records");
-    match swap(&before, level as usize) {
-        Ok(made) => {
-            count_made(&before, &made, tally);
-            swap_keeps(&before, &made, random)
-        }
-        Err(lack) => {
+    match (swap(&before, level as usize), answer) {
+        (Err(lack), _) => {
             count_no_room(&before, lack, tally);
             no_room_keeps(&before, lack, random)
         }
+        (Ok(_), Answer::LogShort(short)) => short_keeps(&before, short),
+        (Ok(made), _) => {
+            count_made(&before, &made, tally);
+            let log = Log(&after.log);
+            let just_enough = log.count() == log.held();
+            tally.count(if just_enough {
+                JUST_ENOUGH_LOG
+            } else {
+                MORE_LOG
+            });
+            log_keeps(&before, &after)?;
+            swap_keeps(&before, &made, random)
+        }
     }
+}
+
+/// How many entries the swap needs; none where it is refused or has no room.
+fn needs(input: &Input, level: u32) -> Vec<usize> {
+    let is_refused = is_refused(input, level);
+    let made = (!is_refused).then(|| swap(input, level as usize).ok());
+    let needed = |made: Swap| entries(input, &made.after, level as usize).len();
+    made.flatten().map(needed).into_iter().collect()
+}
+
+/// Is it refused with any log?
+fn is_refused(input: &Input, level: u32) -> bool {
+    let mut with_log = input.clone().with_enough_log();
+    let answer = answer(&mut with_log, &Question::Swap { level });
+    matches!(answer, Answer::Refused(_))
 }
 
 fn count_made(before: &Input, made: &Swap, tally: &mut Tally) {
@@ -130,7 +167,7 @@ fn random_level(n: usize, random: &mut Random) -> u32 {
 /// besides the dying ones, or a number between these; or one fewer, or one more.
 /// One that is refused, or would be too long, stays as it is.
 fn tightened(input: Input, level: u32, random: &mut Random) -> Input {
-    if let Answer::Refused(_) = answer(&mut input.clone(), &Question::Swap { level }) {
+    if is_refused(&input, level) {
         return input;
     }
     let input = if random.coin() {

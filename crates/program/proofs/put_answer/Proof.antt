@@ -1,6 +1,6 @@
 use borrow.Author.Needs.{needs}
-use Rattle.program.specs.Text.{answerText}
 use Rattle.program.proofs.Laws.{answering}
+use Rattle.program.specs.Text.{answerText}
 use Rattle.program.proofs.put_answer.Statement.{statement}
 use Rattle.program.proofs.put_answer.Tie as tie
 
@@ -15,10 +15,14 @@ put-answer-spec =
     (λ c. search needs)
     (λ c κs. search answering)
     (λ c. search needs)
+    (λ c κs. search answering)
+    (λ c. search needs)
     (λ c. search needs)
     (λ c κs. search answering)
     (λ c. search needs)
     (λ c κs. search answering)
+    (λ c. search needs)
+    (λ c. search answering)
     (λ c. search needs)
     (λ c. search answering)
     (λ c. search needs)

@@ -7,10 +7,11 @@ pub relay-run-spec : {M : Type 1} → statement M
 relay-run-spec =
     tie.close
     (tie.spec
-    (λ c. search run-nothing)
+    (λ c. search (run-nothing, run-told-fits, run-told, needs))
     (λ c κs. search needs)
-    (λ c κs. search (run-told-fits, needs))
+    (λ c κs. search (run-nothing, run-told-fits, run-told, needs))
     (λ c. search needs)
     (λ c. search needs)
     (λ c. search needs)
-    (λ c. search run-told))
+    (λ c. search needs)
+    (λ c. search (run-nothing, run-told-fits, run-told, needs)))

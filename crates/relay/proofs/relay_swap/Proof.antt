@@ -7,10 +7,11 @@ pub relay-swap-spec : {M : Type 1} → statement M
 relay-swap-spec =
     tie.close
     (tie.spec
-    (λ c. search swap-nothing)
+    (λ c. search (swap-nothing, swap-told-fits, swap-told, needs))
     (λ c κs. search needs)
-    (λ c κs. search (swap-told-fits, needs))
+    (λ c κs. search (swap-nothing, swap-told-fits, swap-told, needs))
     (λ c. search needs)
     (λ c. search needs)
     (λ c. search needs)
-    (λ c. search swap-told))
+    (λ c. search needs)
+    (λ c. search (swap-nothing, swap-told-fits, swap-told, needs)))

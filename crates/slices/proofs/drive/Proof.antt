@@ -7,10 +7,19 @@ pub drive-spec : {M : Type 1} → statement M
 drive-spec =
     tie.close
     (tie.spec
-    (λ t₀ roots goal n plan budget start swaps₀ t order swaps. Driving plan t₀ roots start goal n budget t order swaps)
-    (λ t₀ roots goal n plan budget start swaps₀ t order swaps. budget - swaps)
+    (λ table₀ roots order₀ log₀ goal n plan budget fuel start swaps₀ left₀ table order log current swaps left.
+    Driving plan table₀ roots order₀ log₀ goal n budget fuel table order log current swaps left)
+    (λ table₀ roots order₀ log₀ goal n plan budget fuel start swaps₀ left₀ table order log current swaps left. budget - swaps)
     (λ c. search driving)
     (λ c κs. search driving)
+    (λ c. search driving)
+    (λ c. search driving)
+    (λ c. search driving)
+    (λ c. search driving)
+    (λ c. search driving)
+    (λ c. search driving)
+    (λ c. search driving)
+    (λ c. search driving)
     (λ c. search driving)
     (λ c. search driving)
     (λ c. search driving)

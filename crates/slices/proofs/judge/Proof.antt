@@ -1,3 +1,4 @@
+use borrow.Author.Needs.{needs}
 use Rattle.slices.proofs.Laws.{planning, judging}
 use Rattle.slices.proofs.judge.Statement.{statement}
 use Rattle.slices.proofs.judge.Tie as tie
@@ -6,12 +7,15 @@ pub judge-spec : {M : Type 1} → statement M
 judge-spec =
     tie.close
     (tie.spec
-    (λ c κs. search planning)
-    (λ c κs. search planning)
+    (λ c κs. search needs)
+    (λ c κs. search needs)
     (λ c. search judging)
     (λ c κs. search planning)
     (λ c κs. search planning)
-    (λ c. search planning)
-    (λ c. search planning)
+    (λ c κs. search planning)
+    (λ c. search needs)
+    (λ c. search needs)
+    (λ c. search needs)
+    (λ c. search judging)
     (λ c. search judging)
     (λ c. search judging))

@@ -1,4 +1,5 @@
-use Rattle.slices.proofs.Laws.{starting, slice-done, still-sized}
+use borrow.Author.Needs.{needs}
+use Rattle.slices.proofs.Laws.{starting, slice-done}
 use Rattle.slices.proofs.run_slice.Statement.{statement}
 use Rattle.slices.proofs.run_slice.Tie as tie
 
@@ -6,11 +7,10 @@ pub run-slice-spec : {M : Type 1} → statement M
 run-slice-spec =
     tie.close
     (tie.spec
-    (λ c κs. search starting)
-    (λ c κs. search starting)
-    (λ c κs. search starting)
-    (λ c κs. search starting)
-    (λ c κs. search (still-sized, starting))
-    (λ c. search starting)
-    (λ c. search starting)
+    (λ c κs. search needs)
+    (λ c κs. search needs)
+    (λ c κs. search (starting, slice-done))
+    (λ c. search needs)
+    (λ c. search needs)
+    (λ c. search needs)
     (λ c. search slice-done))

@@ -1,5 +1,5 @@
 use borrow.Author.Needs.{needs}
-use Rattle.swaps.proofs.Entry.{asked}
+use Rattle.swaps.proofs.Laws.{image-long, image-same, reckoned-way}
 use Rattle.swaps.proofs.ask.Statement.{statement}
 use Rattle.swaps.proofs.ask.Tie as tie
 
@@ -10,5 +10,7 @@ ask-spec =
     (λ c κs. search needs)
     (λ c. search needs)
     (λ c κs. search needs)
-    (λ c κs. search needs)
-    (λ c. search asked))
+    (λ c. search needs)
+    (λ c. search image-long)
+    (λ c κs. search (image-same, needs))
+    (λ c. search (reckoned-way, needs)))

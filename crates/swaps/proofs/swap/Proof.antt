@@ -1,5 +1,5 @@
 use borrow.Author.Needs.{needs}
-use Rattle.swaps.proofs.Laws.{swap-able, swap-refused, swap-accepted}
+use Rattle.swaps.proofs.Laws.{swap-whole}
 use Rattle.swaps.proofs.swap.Statement.{statement}
 use Rattle.swaps.proofs.swap.Tie as tie
 
@@ -7,13 +7,8 @@ pub swap-spec : {M : Type 1} → statement M
 swap-spec =
     tie.close
     (tie.spec
-    (λ c κs. search needs)
-    (λ c. search needs)
-    (λ c. search needs)
-    (λ c κs. search swap-able)
-    (λ c. search needs)
-    (λ c. search needs)
-    (λ c. search swap-refused)
-    (λ c. search needs)
-    (λ c. search needs)
-    (λ c. search swap-accepted))
+    (λ c κs. search (swap-whole, needs))
+    (λ c. search (swap-whole, needs))
+    (λ c. search (swap-whole, needs))
+    (λ c. search (swap-whole, needs))
+    (λ c. search (swap-whole, needs)))

@@ -1,5 +1,5 @@
 use borrow.Author.Needs.{needs}
-use Rattle.swaps.proofs.Laws.{check-refuses, some-level, no-level, two-levels}
+use Rattle.swaps.proofs.Laws.{stages-last}
 use Rattle.swaps.proofs.verdict_of_swap.Statement.{statement}
 use Rattle.swaps.proofs.verdict_of_swap.Tie as tie
 
@@ -9,8 +9,8 @@ verdict-of-swap-spec =
     (tie.spec
     (λ c κs. search needs)
     (λ c. search needs)
-    (λ c. search check-refuses)
+    (λ c. search stages-last)
     (λ c. search needs)
-    (λ c. search (some-level, needs))
-    (λ c. search no-level)
-    (λ c. search two-levels))
+    (λ c. search stages-last)
+    (λ c. search stages-last)
+    (λ c. search stages-last))

@@ -1,4 +1,5 @@
-use Rattle.swaps.proofs.Entry.{way-lacks, way-clears}
+use borrow.Author.Needs.{needs}
+use Rattle.swaps.proofs.Laws.{room-lacks, room-logs}
 use Rattle.swaps.proofs.way_by.Statement.{statement}
 use Rattle.swaps.proofs.way_by.Tie as tie
 
@@ -6,5 +7,7 @@ pub way-by-spec : {M : Type 1} → statement M
 way-by-spec =
     tie.close
     (tie.spec
-    (λ c. search way-lacks)
-    (λ c. search way-clears))
+    (λ c. search (room-lacks, room-logs, needs))
+    (λ c κs. search needs)
+    (λ c κs. search needs)
+    (λ c. search (room-lacks, room-logs, needs)))

@@ -1,0 +1,5 @@
+pub mod BadLog
+pub mod Slots
+pub mod Accepted
+pub mod Open
+pub mod Bounds

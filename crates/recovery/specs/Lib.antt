@@ -1,0 +1,5 @@
+pub mod Recover
+pub mod Fits
+pub mod Theorems
+pub mod Again
+pub mod Bounds

@@ -1,0 +1,11 @@
+pub mod Stores
+pub mod Calls
+pub mod Mending
+pub mod Log
+pub mod Rows
+pub mod Sealed
+pub mod Changes
+pub mod Survives
+pub mod Wrote
+pub mod Counts
+pub mod Example
