@@ -163,9 +163,6 @@ module _ (t o log : List ℕ) {v : Verdict} (judged : v ≡ verdictOf (recoverSt
           state = w .state ∙ ap (λ (x : Call RecoverAnswer). cut f x (state t o log)) c;
         }
 
-pub restored : {s s′ : State} {f n r : ℕ} → n ≡ counted (s .log) → Spent f (recoveryStores (s .log)) s s′ r → Restored f s n s′
-restored e w = record { entries = e; state = w .state }
-
 pub ruleset recovering = (recover-refused, recover-fits, recovered, needs)
 
 -- ---- with enough fuel it isn't cut
