@@ -3,12 +3,13 @@
  * Prints the least time in microseconds and the numbers of nodes before and
  * after. Its argument is the number of repetitions.
  */
+#include "relay.h"
 #include <bdd.h>
 #include <stdio.h>
 #include <stdlib.h>
 #include <time.h>
 
-enum { VARIABLES = 32, RECORDS = 4096, ROOTS = 64 };
+enum { VARIABLES = RELAY_MOST_VARIABLES, RECORDS = RELAY_MOST_RECORDS, ROOTS = RELAY_MOST_ROOTS };
 
 struct record {
     int variable, low, high;
@@ -60,7 +61,7 @@ int main(int count, char **arguments)
     double least = 1e300;
     int before = 0, after = 0;
     for (int repetition = 0; repetition < repetitions; repetition++) {
-        bdd_init(20000, 10000);
+        bdd_init(5 * used, 10000); /* nodes, and entries of its cache */
         bdd_gbc_hook(NULL);
         bdd_resize_hook(NULL);
         bdd_reorder_hook(NULL);

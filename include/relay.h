@@ -27,14 +27,15 @@
 #include <stddef.h>
 #include <stdint.h>
 
-#define RELAY_VERSION 6u
+#define RELAY_VERSION 7u
 
 /* Sizes and limits. */
 #define RELAY_RECORD_SIZE 8u
 #define RELAY_ROOT_SIZE 2u
-#define RELAY_MOST_RECORDS 4096u
+#define RELAY_MOST_RECORDS 8192u
 #define RELAY_MOST_ROOTS 64u
-#define RELAY_MOST_VARIABLES 32u
+#define RELAY_MOST_VARIABLES 64u
+#define RELAY_MOST_COUNTED 52u /* variables, by Count */
 #define RELAY_LABEL_SIZE 16u
 #define RELAY_TEXT_SIZE 15u
 #define RELAY_MOST_LABELS 64u
@@ -83,6 +84,7 @@
 #define RELAY_REFUSED_PLAN 13u     /* no such plan; the number given */
 #define RELAY_REFUSED_LOG 14u      /* a log that no cut leaves: its length, place 0; its seal, the seal's record; the lowest wrong entry */
 #define RELAY_REFUSED_SEALED 15u   /* a swap was cut, and nothing recovered it; place 0 */
+#define RELAY_REFUSED_MANY 16u     /* more variables than Count counts by; n */
 
 /* The first number of a label's answer: which list it is a part of. */
 #define RELAY_NO_LABEL 0u
@@ -139,7 +141,7 @@ size_t relay_show(const uint8_t *table, size_t table_length,
  * will be; only their first entries are written.
  *   counted: RELAY_COUNTED; the number of combinations in `count`, and in `share` that number over 2^n, exactly
  *            (0.0 for none, 1.0 for all)
- *   refused: the refusal's number (1, 2, 4 to 10), its place; `count` and `share` stay as they are
+ *   refused: the refusal's number (1, 2, 4 to 10, 16), its place; `count` and `share` stay as they are
  */
 size_t relay_count(const uint8_t *table, size_t table_length,
                    const uint8_t *roots, size_t roots_length,

@@ -1,7 +1,9 @@
 /* The library as C sees it: its header, its static archive, and the answers of
  * each call for cases of the bench sheet, whole and damaged, with their logs,
- * and for lists of labels, in 256 KiB of stack. The answers and the buffers
- * afterwards are written out by hand. */
+ * and for lists of labels, in 512 KiB of stack. The answers and the buffers
+ * afterwards are written out by hand. Each entry that takes a table is called
+ * with the largest store too, a full table of 64 variables (full.h): however
+ * much of the stack it takes for that, it is less. */
 
 #define _POSIX_C_SOURCE 200809L
 
@@ -14,7 +16,7 @@
 
 #include "relay.h"
 
-#define STACK (256 * 1024)
+#define STACK (512 * 1024)
 #define LIST 8
 #define LEVELS RELAY_MOST_VARIABLES
 #define PLACES 2
@@ -107,21 +109,18 @@ static const uint8_t log_c_after[LOG_LENGTH] = {
     0, 0, 0, 0, 0,   0, 0, 0, 0, 0, 0, 0, 0, 0, 0, 0, /* */
     0, 0, 3, 0, 0,   0, 0, 0, 0, 0, 0, 0, 0, 0, 0, 0, /* */
 };
-/* While case A is being swapped, and with an entry of no kind. */
-static const uint8_t log_a_sealed[LOG_LENGTH] = {
-    0,   0, 0, 0, 1,   0, 0, 0, 1, 0, 0, 0, 0, 0, 0, 0, /* */
-    0,   0, 1, 0, 0,   0, 0, 0, 2, 0, 0, 0, 0, 0, 0, 0, /* */
-    0,   0, 2, 0, 255, 0, 0, 0, 0, 0, 0, 0, 0, 0, 0, 0, /* */
-    0,   1, 0, 0, 0,   1, 0, 0, 0, 0, 0, 0, 0, 0, 0, 0, /* */
-    165, 0, 4, 0, 0,   0, 0, 0, 0, 0, 0, 0, 0, 0, 0, 0, /* */
-};
-static const uint8_t log_a_damaged[LOG_LENGTH] = {
-    0,   0, 0, 0, 1,   0, 0, 0, 1, 0, 0, 0, 0, 0, 0, 0, /* */
-    0,   0, 1, 0, 0,   0, 0, 0, 2, 0, 0, 0, 0, 0, 0, 0, /* */
-    0,   2, 2, 0, 255, 0, 0, 0, 0, 0, 0, 0, 0, 0, 0, 0, /* */
-    0,   1, 0, 0, 0,   1, 0, 0, 0, 0, 0, 0, 0, 0, 0, 0, /* */
-    165, 0, 4, 0, 0,   0, 0, 0, 0, 0, 0, 0, 0, 0, 0, 0, /* */
-};
+/* While case A is being swapped, and with an entry of no kind: the same log but
+ * for a byte, and for one more. */
+static uint8_t log_a_sealed[LOG_LENGTH];
+static uint8_t log_a_damaged[LOG_LENGTH];
+
+static void make_logs(void)
+{
+    memcpy(log_a_sealed, log_a_after, LOG_LENGTH);
+    log_a_sealed[LOG_LENGTH - RELAY_LOG_RECORD_SIZE] = 165;
+    memcpy(log_a_damaged, log_a_sealed, LOG_LENGTH);
+    log_a_damaged[2 * RELAY_LOG_RECORD_SIZE + 1] = 2;
+}
 
 /* The buffers of one call. The log is lent from its beginning, with bytes
  * around it that nobody may write to. */
@@ -269,7 +268,7 @@ static int read_a(const char *name, uint32_t position, uint8_t input_0,
     return differs(name, &lent, written, expected);
 }
 
-/* The longest way down there is: 32 records, each the high child of the one
+/* The longest way down there is: 64 records, each the high child of the one
  * before, under inputs that are all 1 but perhaps the last. */
 static int read_down(const char *name, uint8_t last_input, uint32_t value)
 {
@@ -325,8 +324,8 @@ static int reads(void)
            read_a("read A, no such root", 1, 1, 1, LIST, no_root) ||
            read_a("read A under 1 2", 0, 1, 2, LIST, no_input) ||
            read_a("read A, list of 1", 0, 1, 1, 1, nothing) ||
-           read_down("read 32 levels down, last input 1", 1, 1) ||
-           read_down("read 32 levels down, last input 0", 0, 0);
+           read_down("read 64 levels down, last input 1", 1, 1) ||
+           read_down("read 64 levels down, last input 0", 0, 0);
 }
 
 static int show(const char *name, const uint8_t *table, uint32_t position,
@@ -726,11 +725,16 @@ static int refused_counts(void)
                  UNTOUCHED_PLACE, UNTOUCHED_PLACE);
 }
 
-/* The root of a table with 32 variables. */
-static int count_32(const char *name, const uint8_t *table, size_t table_length,
-                    uint8_t root, uint64_t number, uint64_t share)
+/* The root of a table with so many variables. Where these are too many to be
+ * counted, the refusal tells how many they are. */
+static int count_levels(const char *name, size_t levels, const uint8_t *table,
+                        size_t table_length, uint8_t root, uint64_t number,
+                        uint64_t share)
 {
     const uint8_t the_root[RELAY_ROOT_SIZE] = {root, 0};
+    const int can = levels <= RELAY_MOST_COUNTED;
+    const uint32_t first = can ? RELAY_COUNTED : RELAY_REFUSED_MANY;
+    const uint32_t second = can ? UNTOUCHED : (uint32_t)levels;
     uint8_t order[LEVELS];
     uint32_t list[RELAY_COUNT_NUMBERS] = {UNTOUCHED, UNTOUCHED};
     struct places places = lend_places();
@@ -741,42 +745,67 @@ static int count_32(const char *name, const uint8_t *table, size_t table_length,
         order[level] = level;
     }
     written = relay_count(table, table_length, the_root, sizeof the_root, order,
-                          sizeof order, 0, places.counts, PLACES,
-                          places.shares, PLACES, list, RELAY_COUNT_NUMBERS);
-    if (written != 1 || list[0] != RELAY_COUNTED || list[1] != UNTOUCHED) {
+                          levels, 0, places.counts, PLACES, places.shares,
+                          PLACES, list, RELAY_COUNT_NUMBERS);
+    if (written != (can ? 1 : 2) || list[0] != first || list[1] != second) {
         printf("boundary: %s: %zu written, %" PRIu32 " %" PRIu32 "\n", name,
                written, list[0], list[1]);
         return 1;
     }
-    return places_differ(name, &places, number, share);
+    return places_differ(name, &places, can ? number : UNTOUCHED_PLACE,
+                         can ? share : UNTOUCHED_PLACE);
 }
 
-/* Through all 32 levels: the low child of each record is this constant, the
- * high one the record below; the last record is its variable. */
-static int count_down(const char *name, uint8_t constant, uint64_t number,
-                      uint64_t share)
+/* Through all levels: the low child of each record is this constant, the high
+ * one the record below; the last record is its variable. */
+static int count_down(const char *name, size_t levels, uint8_t constant,
+                      uint64_t number, uint64_t share)
 {
     uint8_t table[RELAY_RECORD_SIZE * LEVELS] = {0};
     uint8_t level;
 
-    for (level = 0; level < LEVELS; level++) {
+    for (level = 0; level < levels; level++) {
         uint8_t *record = table + RELAY_RECORD_SIZE * level;
-        int last = level + 1u == LEVELS;
+        int last = level + 1u == levels;
         record[0] = level;
         record[2] = last ? RELAY_FALSE : constant;
         record[4] = last ? RELAY_TRUE : (uint8_t)(level + 3);
     }
-    return count_32(name, table, sizeof table, RELAY_FIRST_RECORD, number,
-                    share);
+    return count_levels(name, levels, table, RELAY_RECORD_SIZE * levels,
+                        RELAY_FIRST_RECORD, number, share);
 }
 
 /* Without a record; the table's pointer is none the less a good one. */
-static int count_constant(const char *name, uint8_t constant, uint64_t number,
-                          uint64_t share)
+static int count_constant(const char *name, size_t levels, uint8_t constant,
+                          uint64_t number, uint64_t share)
 {
     const uint8_t no_record[1] = {0};
 
-    return count_32(name, no_record, 0, constant, number, share);
+    return count_levels(name, levels, no_record, 0, constant, number, share);
+}
+
+/* Of 32 levels, of the 52 that are counted at most, and of more. */
+static int counts_of_levels(void)
+{
+    return count_down("count 32 levels, one of them", 32, RELAY_FALSE, 1,
+                      UINT64_C(0x3DF0000000000000)) ||
+           count_down("count 32 levels, all but one", 32, RELAY_TRUE,
+                      UINT64_C(0xFFFFFFFF), UINT64_C(0x3FEFFFFFFFE00000)) ||
+           count_constant("count false, n = 32", 32, RELAY_FALSE, 0, 0) ||
+           count_constant("count true, n = 32", 32, RELAY_TRUE,
+                          UINT64_C(0x100000000), ONE) ||
+           count_down("count 52 levels, one of them", 52, RELAY_FALSE, 1,
+                      UINT64_C(0x3CB0000000000000)) ||
+           count_down("count 52 levels, all but one", 52, RELAY_TRUE,
+                      UINT64_C(0xFFFFFFFFFFFFF),
+                      UINT64_C(0x3FEFFFFFFFFFFFFE)) ||
+           count_constant("count false, n = 52", 52, RELAY_FALSE, 0, 0) ||
+           count_constant("count true, n = 52", 52, RELAY_TRUE,
+                          UINT64_C(0x10000000000000), ONE) ||
+           count_down("count 53 levels", 53, RELAY_TRUE, 0, 0) ||
+           count_down("count 64 levels", 64, RELAY_FALSE, 0, 0) ||
+           count_constant("count true, n = 53", 53, RELAY_TRUE, 0, 0) ||
+           count_constant("count true, n = 64", 64, RELAY_TRUE, 0, 0);
 }
 
 static int counts(void)
@@ -795,14 +824,10 @@ static int counts(void)
            not_counted("count A, no place for the share", no_share) ||
            not_counted("count A, list of 1", list_of_1) ||
            not_counted("count A, list of 0", list_of_0) || refused_counts() ||
-           count_down("count 32 levels, one of them", RELAY_FALSE, 1,
-                      UINT64_C(0x3DF0000000000000)) ||
-           count_down("count 32 levels, all but one", RELAY_TRUE,
-                      UINT64_C(0xFFFFFFFF), UINT64_C(0x3FEFFFFFFFE00000)) ||
-           count_constant("count false, n = 32", RELAY_FALSE, 0, 0) ||
-           count_constant("count true, n = 32", RELAY_TRUE,
-                          UINT64_C(0x100000000), ONE);
+           counts_of_levels();
 }
+
+#include "full.h"
 
 /* Both lists of relay_label, not on the stack: record i is for variable i, and
  * its text is one letter 15 times. */
@@ -934,11 +959,12 @@ static int labels(void)
 /* Every case; the first that differs is told. */
 static void *cases(void *wrong)
 {
+    make_logs();
     *(int *)wrong = checks() || reads() || shows() || swaps() || runs() ||
                     refused_plan(RELAY_HIGHEST_INVERSION + 1) ||
                     refused_plan(256) || refused_plan(UINT32_MAX) ||
                     recoveries() || refused_logs() || short_logs() ||
-                    long_logs() || counts() || labels();
+                    long_logs() || counts() || labels() || on_full_tables();
     return NULL;
 }
 

@@ -257,9 +257,13 @@ static void logs(void)
 }
 
 /* The numbers themselves, as the rules say them. */
-static void names_of_the_log(void)
+static void names(void)
 {
-    expect("RELAY_VERSION", 6, RELAY_VERSION);
+    expect("RELAY_VERSION", 7, RELAY_VERSION);
+    expect("RELAY_MOST_RECORDS", 8192, RELAY_MOST_RECORDS);
+    expect("RELAY_MOST_VARIABLES", 64, RELAY_MOST_VARIABLES);
+    expect("RELAY_MOST_COUNTED", 52, RELAY_MOST_COUNTED);
+    expect("RELAY_REFUSED_MANY", 16, RELAY_REFUSED_MANY);
     expect("RELAY_LOG_SHORT", 102, RELAY_LOG_SHORT);
     expect("RELAY_PUT_BACK", 0, RELAY_PUT_BACK);
     expect("RELAY_REFUSED_LOG", 14, RELAY_REFUSED_LOG);
@@ -291,7 +295,7 @@ static void label_answers(void)
     expect("RELAY_MOST_LABELS and one, of the factory", label(1, RELAY_MOST_LABELS + 1, 0), RELAY_NO_LABEL);
 }
 
-/* Each limit is taken, and one more is refusal 1. */
+/* Each limit is taken, and one more is refusal 1; by Count refusal 16, whether there is such a root or not. */
 static void limits(void)
 {
     size_t i;
@@ -312,6 +316,14 @@ static void limits(void)
     expect("RELAY_MOST_VARIABLES", answer[0], RELAY_ACCEPTED);
     relay_check(table, 0, roots, 0, order, RELAY_MOST_VARIABLES + 1, answer, RELAY_CHECK_NUMBERS);
     expect("RELAY_MOST_VARIABLES and one", answer[0], RELAY_REFUSED_SIZES);
+    roots[0] = RELAY_TRUE;
+    relay_count(table, 0, roots, RELAY_ROOT_SIZE, order, RELAY_MOST_COUNTED, 0, count, 1, share, 1, answer, RELAY_COUNT_NUMBERS);
+    expect("RELAY_MOST_COUNTED", answer[0], RELAY_COUNTED);
+    relay_count(table, 0, roots, RELAY_ROOT_SIZE, order, RELAY_MOST_COUNTED + 1, 0, count, 1, share, 1, answer, RELAY_COUNT_NUMBERS);
+    expect("RELAY_REFUSED_MANY, RELAY_MOST_COUNTED and one", answer[0], RELAY_REFUSED_MANY);
+    expect("the place of RELAY_REFUSED_MANY", answer[1], RELAY_MOST_COUNTED + 1);
+    relay_count(table, 0, roots, RELAY_ROOT_SIZE, order, RELAY_MOST_COUNTED + 1, 1, count, 1, share, 1, answer, RELAY_COUNT_NUMBERS);
+    expect("RELAY_REFUSED_MANY, no such root", answer[0], RELAY_REFUSED_MANY);
     case_a();
     roots[0] = RELAY_TRUE;
     relay_read(table, 0, roots, RELAY_ROOT_SIZE, order, 2, 0, order, 2, answer, RELAY_READ_NUMBERS);
@@ -327,7 +339,7 @@ int main(void)
     refusals();
     plans();
     logs();
-    names_of_the_log();
+    names();
     label_answers();
     limits();
     return failures != 0;

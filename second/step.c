@@ -196,6 +196,31 @@ static void on_a_large_table(void)
     slice_on(&store, target, RELAY_HIGHEST_INVERSION, 3);
 }
 
+/* The longest table and log, and all levels: at the top, where few records
+ * change, and at the bottom, where none does; then both in one slice. */
+static void on_the_largest_store(void)
+{
+    static struct store store;
+    const uint32_t bottom = RELAY_MOST_VARIABLES - 2;
+    uint8_t target[RELAY_MOST_VARIABLES];
+
+    prepare_largest(&store, &large);
+    memcpy(target, store.bytes + store.table, sizeof target);
+    target[0] = 1;
+    target[1] = 0;
+    target[bottom] = (uint8_t)(bottom + 1);
+    target[bottom + 1] = (uint8_t)bottom;
+    name_case(&large, &store, "swap at the top and level", bottom);
+    if (!try_swap(&store, 0) || !try_swap(&store, bottom)) {
+        fail("no swap is made");
+    }
+    name_case(&large, &store, "run by plan", RELAY_SINK_DOWN);
+    slice_on(&store, target, RELAY_SINK_DOWN, UINT32_MAX);
+    printf("step: %s: two swaps and a slice with %zu records, %zu levels and a "
+           "log of %zu bytes\n",
+           way->name, records(&store), store.levels, store.log);
+}
+
 static void cases_by_faults(void)
 {
     size_t recipe, spare;
@@ -207,6 +232,7 @@ static void cases_by_faults(void)
         }
     }
     on_a_large_table();
+    on_the_largest_store();
 }
 
 /* Slices to the reversed order: each answer, and each plan. */

@@ -7,6 +7,7 @@ use std::io::Write as _;
 use std::process::{Command, Stdio};
 
 use crate::generate::{Buffers, Case};
+use crate::limits::{RECORD_SIZE, ROOT_SIZE};
 
 pub fn microseconds(program: &OsStr, case: &Case, repetitions: usize) -> Result<f64, String> {
     let mut child = Command::new(program)
@@ -47,7 +48,7 @@ fn text(case: &Case) -> String {
         order,
         ..
     } = &case.before;
-    let records: Vec<&[u8]> = table.chunks_exact(8).collect();
+    let records: Vec<&[u8]> = table.chunks_exact(RECORD_SIZE).collect();
     let mut sorted = Vec::new();
     for &variable in order.iter().rev() {
         sorted.extend((0..records.len()).filter(|&number| records[number][0] == variable));
@@ -69,7 +70,7 @@ fn text(case: &Case) -> String {
         text.push('\n');
     };
     let wide = |bytes: &[u8]| bytes.iter().map(|&b| b as usize).collect::<Vec<_>>();
-    line(&[order.len(), sorted.len(), roots.len() / 2]);
+    line(&[order.len(), sorted.len(), case.before.positions()]);
     line(&wide(order));
     line(&wide(&case.target));
     for number in sorted {
@@ -80,6 +81,11 @@ fn text(case: &Case) -> String {
             reference(&record[4..6]),
         ]);
     }
-    line(&roots.chunks_exact(2).map(reference).collect::<Vec<_>>());
+    line(
+        &roots
+            .chunks_exact(ROOT_SIZE)
+            .map(reference)
+            .collect::<Vec<_>>(),
+    );
     text
 }

@@ -2,10 +2,11 @@
 //! records in buckets by a hash and gives the chains up after too many steps: one
 //! where it does so early, one where it just doesn't, and one where it does late.
 
-use crate::generate::{Buffers, Diagram, Random, RECORDS, ROOTS, VARIABLES};
+use crate::generate::{Buffers, Diagram, Random};
+use crate::limits::{FREE, RECORDS, RECORD_SIZE, ROOTS, VARIABLES};
 
 /// Check 7's buckets, and the most steps along their chains that it makes.
-const BUCKETS: usize = 8_192;
+const BUCKETS: usize = 2 * RECORDS;
 const MOST_STEPS: usize = 2 * RECORDS;
 
 /// The bucket that is crowded most, any of them.
@@ -19,10 +20,19 @@ const GLUE: usize = 3;
 pub struct Crowded {
     pub name: String,
     pub buffers: Buffers,
+    pub chains: Chains,
+}
+
+/// The chains of a table's records.
+pub struct Chains {
+    /// How many buckets have a record.
+    pub taken: usize,
     /// How many records the fullest bucket has.
     pub fullest: usize,
-    /// How many steps check 7 would make if it never gave up.
-    steps: usize,
+    /// How many steps there are, if the chains aren't given up.
+    pub steps: usize,
+    /// The record at which they are given up.
+    pub given_up: Option<usize>,
 }
 
 /// A base of any records, above it records of one bucket, at the top records of
@@ -40,25 +50,28 @@ pub fn one_bucket(seed: u64) -> Crowded {
         }
     }
     let crowded = growth.crowded("one bucket".to_string());
-    let fullest = crowded.fullest;
-    assert!(fullest >= 3_000, "one bucket has only {fullest} records");
+    let fullest = crowded.chains.fullest;
+    assert!(fullest >= 7_000, "one bucket has only {fullest} records");
     crowded
 }
 
 /// The longest chains of one length that are walked to the end.
 pub fn buckets_of_5(seed: u64) -> Crowded {
     let crowded = buckets_of(5, seed);
-    let steps = crowded.steps;
-    assert!(steps > 7_500, "the chains have only {steps} steps");
-    assert!(steps <= MOST_STEPS, "the chains have {steps} steps");
+    let Chains {
+        steps, given_up, ..
+    } = crowded.chains;
+    assert!(steps > 15_000, "the chains have only {steps} steps");
+    assert!(given_up.is_none(), "the chains have {steps} steps");
     crowded
 }
 
 /// Chains that are given up late, so that the table is searched both ways.
 pub fn buckets_of_6(seed: u64) -> Crowded {
     let crowded = buckets_of(6, seed);
-    let steps = crowded.steps;
-    assert!(steps > MOST_STEPS, "the chains have only {steps} steps");
+    let given_up = crowded.chains.given_up;
+    let late = given_up.is_some_and(|record| record > RECORDS * 3 / 4);
+    assert!(late, "the chains are given up at {given_up:?}");
     crowded
 }
 
@@ -75,7 +88,7 @@ fn buckets_of(limit: usize, seed: u64) -> Crowded {
         });
     }
     let crowded = growth.crowded(format!("buckets of {limit}"));
-    let fullest = crowded.fullest;
+    let fullest = crowded.chains.fullest;
     assert_eq!(fullest, limit, "the fullest bucket has {fullest} records");
     crowded
 }
@@ -87,16 +100,31 @@ fn bucket(variable: u8, low: usize, high: usize) -> usize {
     (sum / 262_144) as usize % BUCKETS
 }
 
-/// How many used records of the table lie in each bucket.
-fn counts(buffers: &Buffers) -> Vec<usize> {
-    let mut counts = vec![0; BUCKETS];
-    for bytes in buffers.table.chunks_exact(8) {
-        if bytes[0] != 255 {
+impl Chains {
+    /// Each used record walks past all earlier ones of its bucket.
+    fn of(buffers: &Buffers) -> Chains {
+        let mut counts = vec![0; BUCKETS];
+        let mut steps = 0;
+        let mut given_up = None;
+        for (record, bytes) in buffers.table.chunks_exact(RECORD_SIZE).enumerate() {
+            if bytes[0] == FREE {
+                continue;
+            }
             let number = |at: usize| u16::from_le_bytes([bytes[at], bytes[at + 1]]) as usize;
-            counts[bucket(bytes[0], number(2), number(4))] += 1;
+            let count = &mut counts[bucket(bytes[0], number(2), number(4))];
+            steps += *count;
+            *count += 1;
+            if steps > MOST_STEPS {
+                given_up = given_up.or(Some(record));
+            }
+        }
+        Chains {
+            taken: counts.iter().filter(|&&count| count > 0).count(),
+            fullest: counts.iter().copied().max().unwrap_or(0),
+            steps,
+            given_up,
         }
     }
-    counts
 }
 
 struct Buckets {
@@ -161,8 +189,17 @@ impl Growth {
         limit: usize,
         allowed: &impl Fn(&Buckets, usize) -> bool,
     ) {
-        for &low in below {
-            for &high in below {
+        let unnamed: Vec<usize> = below
+            .iter()
+            .copied()
+            .filter(|&reference| self.unnamed[reference])
+            .collect();
+        let lows = if names == 2 { &unnamed[..] } else { below };
+        for &low in lows {
+            // The high reference must be unnamed where the low one names too few.
+            let of_low = usize::from(self.unnamed[low]);
+            let highs = if names > of_low { &unnamed[..] } else { below };
+            for &high in highs {
                 if self.diagram.records.len() == limit || !self.has_room(names) {
                     return;
                 }
@@ -206,13 +243,10 @@ impl Growth {
 
     fn crowded(self, name: String) -> Crowded {
         let buffers = self.buffers();
-        let counts = counts(&buffers);
         Crowded {
             name,
+            chains: Chains::of(&buffers),
             buffers,
-            fullest: counts.iter().copied().max().unwrap_or(0),
-            // Each record of a bucket walks past all earlier ones of it.
-            steps: counts.iter().map(|c| c * c.saturating_sub(1) / 2).sum(),
         }
     }
 

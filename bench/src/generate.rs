@@ -4,21 +4,38 @@
 
 use std::collections::HashMap;
 
+use crate::limits::{
+    FREE, LOG_RECORDS, LOG_RECORD_SIZE, RECORDS, RECORD_SIZE, ROOTS, ROOT_SIZE, VARIABLES,
+};
 use crate::ordinary::{self, Answer, Plan};
 
 /// The plan by which full tables are reversed, and timed.
 pub const PLAN: Plan = Plan::BringUp;
-/// The sizes of a full table.
-pub const RECORDS: usize = 4_096;
-pub const VARIABLES: usize = 32;
-/// The sizes of a job's table.
-pub const JOB_RECORDS: usize = 512;
-pub const JOB_VARIABLES: usize = 16;
-pub const ROOTS: usize = 64;
-/// The most log records.
-const LOG_RECORDS: usize = 4_096;
 /// The fewest inputs of a root that fills up the rest.
 const FEWEST: usize = 4;
+
+/// How many variables and records a table has.
+#[derive(Clone, Copy)]
+pub struct Size {
+    pub variables: usize,
+    pub records: usize,
+}
+
+/// A full table as large as there may be.
+const LARGE: Size = Size {
+    variables: VARIABLES,
+    records: RECORDS,
+};
+/// A full table of half as many variables and records.
+const SMALL: Size = Size {
+    variables: VARIABLES / 2,
+    records: RECORDS / 2,
+};
+/// The table of a job.
+pub const JOB: Size = Size {
+    variables: 16,
+    records: 512,
+};
 
 /// The lent buffers but the target.
 #[derive(Clone, PartialEq, Eq)]
@@ -30,15 +47,37 @@ pub struct Buffers {
 }
 
 impl Buffers {
+    /// A table in which nothing is used; its roots are the constants.
+    pub fn of_free_records(variables: usize, records: usize) -> Buffers {
+        Buffers {
+            table: free_records(records),
+            roots: vec![0, 0, 1, 0],
+            order: (0..variables as u8).collect(),
+            log: empty_log(records),
+        }
+    }
+
     /// The number of used records.
     pub fn used(&self) -> usize {
-        let records = self.table.chunks_exact(8);
-        records.filter(|record| record[0] != 255).count()
+        let records = self.table.chunks_exact(RECORD_SIZE);
+        records.filter(|record| record[0] != FREE).count()
+    }
+
+    pub fn records(&self) -> usize {
+        self.table.len() / RECORD_SIZE
+    }
+
+    /// How many roots there are.
+    pub fn positions(&self) -> usize {
+        self.roots.len() / ROOT_SIZE
     }
 }
 
+/// A full table, and what its reversal makes of it.
 pub struct Case {
-    pub name: String,
+    pub name: &'static str,
+    /// How many roots it has of how many inputs.
+    pub functions: String,
     pub before: Buffers,
     pub after: Buffers,
     /// The order of `before`, reversed.
@@ -46,14 +85,24 @@ pub struct Case {
     pub swaps: u32,
 }
 
-/// Roots of that many inputs, and then of fewer and fewer, as long as the
-/// reversal still finds room in every swap.
-pub fn full(seed: u64, most: usize) -> Case {
+/// The full tables that are timed: a wide and a dense one of each size.
+pub fn full_tables() -> [Case; 4] {
+    [
+        full("wide", SMALL, 1, 8),
+        full("dense", SMALL, 2, 13),
+        full("large wide", LARGE, 1, 10),
+        full("large dense", LARGE, 3, 13),
+    ]
+}
+
+/// Roots of that many inputs, and then of fewer and fewer, as long as every swap
+/// of the reversal still finds room, and a log that is long enough.
+fn full(name: &'static str, size: Size, seed: u64, most: usize) -> Case {
     let mut random = Random::new(seed);
-    let order = random.permutation(VARIABLES);
+    let order = random.permutation(size.variables);
     let target: Vec<u8> = order.iter().rev().copied().collect();
     let reversed = |diagram: &Diagram| {
-        let before = diagram.table(seed, RECORDS, &order)?;
+        let before = diagram.table(seed, size.records, &order)?;
         let mut after = before.clone();
         match ordinary::run(&mut after, &target, PLAN, u32::MAX) {
             Answer::Done { swaps } => Some((before, after, swaps)),
@@ -66,11 +115,12 @@ pub fn full(seed: u64, most: usize) -> Case {
         reversed(larger).is_some()
     });
     let (before, after, swaps) = reversed(&diagram).expect("what fits is reversed");
-    let unused = RECORDS - most_used(&before, &target);
+    let unused = size.records - most_used(&before, &target);
     assert!(unused <= 1, "the tightest swap leaves {unused} records");
     let smaller = diagram.roots.len() - of_most;
     Case {
-        name: format!("{of_most} roots of {most} inputs and {smaller} of fewer"),
+        name,
+        functions: format!("{of_most} roots of {most} inputs and {smaller} of fewer"),
         before,
         after,
         target,
@@ -89,6 +139,17 @@ fn most_used(before: &Buffers, target: &[u8]) -> usize {
     most.max(buffers.used())
 }
 
+/// One root, a random function of all variables, in a table as large as there may
+/// be: in the middle of it a swap changes very many records.
+pub fn one_function(seed: u64, variables: usize) -> Buffers {
+    let mut random = Random::new(seed);
+    let order = random.permutation(variables);
+    let mut diagram = Diagram::default();
+    diagram.add_root(&mut random, &order, variables);
+    let table = diagram.table(seed, RECORDS, &order);
+    table.expect("the function fits")
+}
+
 /// A table with its roots and order, and the order to bring it to.
 pub struct Job {
     pub before: Buffers,
@@ -99,15 +160,15 @@ pub struct Job {
 /// the records in per cent.
 pub fn job(seed: u64, most: usize, percent: usize) -> Job {
     let mut random = Random::new(seed);
-    let order = random.permutation(JOB_VARIABLES);
-    let target = random.permutation(JOB_VARIABLES);
-    let limit = JOB_RECORDS * percent / 100;
+    let order = random.permutation(JOB.variables);
+    let target = random.permutation(JOB.variables);
+    let limit = JOB.records * percent / 100;
 
     let mut diagram = Diagram::default();
     diagram.fill(&mut random, &order, most, |larger| {
         larger.records.len() <= limit
     });
-    let before = diagram.table(seed, JOB_RECORDS, &order);
+    let before = diagram.table(seed, JOB.records, &order);
     Job {
         before: before.expect("a share of the records fits"),
         target,
@@ -196,9 +257,9 @@ impl Diagram {
             0 | 1 => (r as u16).to_le_bytes(),
             _ => (numbers[r - 2] + 2).to_le_bytes(),
         };
-        let mut table = [255, 0, 0, 0, 0, 0, 0, 0].repeat(numbers.len());
+        let mut table = free_records(numbers.len());
         for (&number, &(variable, low, high)) in numbers.iter().zip(&self.records) {
-            let bytes = &mut table[number as usize * 8..][..8];
+            let bytes = &mut table[number as usize * RECORD_SIZE..][..RECORD_SIZE];
             bytes[0] = variable;
             bytes[2..4].copy_from_slice(&reference(low));
             bytes[4..6].copy_from_slice(&reference(high));
@@ -212,10 +273,14 @@ impl Diagram {
     }
 }
 
+fn free_records(records: usize) -> Vec<u8> {
+    [FREE, 0, 0, 0, 0, 0, 0, 0].repeat(records)
+}
+
 /// An entry for each record, one for the pair of levels, and the seal; or as many
 /// as there may be.
 fn empty_log(records: usize) -> Vec<u8> {
-    vec![0; 16 * (records + 2).min(LOG_RECORDS)]
+    vec![0; LOG_RECORD_SIZE * (records + 2).min(LOG_RECORDS)]
 }
 
 /// Numbers that a seed decides: xorshift64*.

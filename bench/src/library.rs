@@ -3,7 +3,11 @@
 
 use crate::entries::{relay_check, relay_count, relay_recover, relay_run, relay_swap};
 use crate::generate::Buffers;
+use crate::limits::NUMBERS;
 use crate::ordinary::{Counted, Plan};
+
+/// A list that holds the longest answer.
+pub type Numbers = [u32; NUMBERS];
 
 /// The first number of a run's answer, where it isn't a refusal's.
 pub const DONE: u32 = 0;
@@ -15,7 +19,7 @@ pub const LOG_SHORT: u32 = 102;
 // buffer that it points to, no two of the buffers overlap, and those that the
 // call may change are borrowed for writing.
 
-pub fn check(buffers: &Buffers, answer: &mut [u32; 6]) -> usize {
+pub fn check(buffers: &Buffers, answer: &mut Numbers) -> usize {
     let (table, roots, order) = (&buffers.table, &buffers.roots, &buffers.order);
     unsafe {
         relay_check(
@@ -36,7 +40,7 @@ pub fn count(
     buffers: &Buffers,
     position: u32,
     counted: &mut Counted,
-    answer: &mut [u32; 6],
+    answer: &mut Numbers,
 ) -> usize {
     let (table, roots, order) = (&buffers.table, &buffers.roots, &buffers.order);
     unsafe {
@@ -58,7 +62,7 @@ pub fn count(
     }
 }
 
-pub fn swap(buffers: &mut Buffers, level: u32, answer: &mut [u32; 6]) -> usize {
+pub fn swap(buffers: &mut Buffers, level: u32, answer: &mut Numbers) -> usize {
     let (table, roots, order) = (&mut buffers.table, &buffers.roots, &mut buffers.order);
     let log = &mut buffers.log;
     unsafe {
@@ -83,7 +87,7 @@ pub fn run(
     target: &[u8],
     plan: Plan,
     budget: u32,
-    answer: &mut [u32; 6],
+    answer: &mut Numbers,
 ) -> usize {
     let (table, roots, order) = (&mut buffers.table, &buffers.roots, &mut buffers.order);
     let log = &mut buffers.log;
@@ -107,7 +111,7 @@ pub fn run(
     }
 }
 
-pub fn recover(buffers: &mut Buffers, answer: &mut [u32; 6]) -> usize {
+pub fn recover(buffers: &mut Buffers, answer: &mut Numbers) -> usize {
     let (table, order, log) = (&mut buffers.table, &mut buffers.order, &mut buffers.log);
     unsafe {
         relay_recover(

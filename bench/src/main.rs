@@ -1,12 +1,15 @@
 //! Times of the library beside other programs, and how far its plans come.
 
+mod agree;
 mod buddy;
 mod crowded;
 mod entries;
 mod generate;
 mod library;
+mod limits;
 mod ordinary;
 mod plans;
+mod points;
 mod times;
 
 use std::env;

@@ -15,11 +15,7 @@ use std::collections::{BTreeSet, HashMap, HashSet};
 
 use crate::generate::Buffers;
 use crate::library::{DONE, LOG_SHORT, NO_ROOM, PAUSED};
-
-const FREE: u8 = 255;
-const RECORDS: usize = 4_096;
-const ROOTS: usize = 64;
-const VARIABLES: usize = 32;
+use crate::limits::{FREE, RECORDS, RECORD_SIZE, ROOTS, ROOT_SIZE, VARIABLES};
 
 #[derive(Clone, Copy, Debug, PartialEq, Eq)]
 pub enum Answer {
@@ -207,10 +203,10 @@ fn judge_sizes(buffers: &Buffers, target: Option<&[u8]>) -> Result<(), Answer> {
     let (table, roots, n) = (&buffers.table, &buffers.roots, buffers.order.len());
     if !(1..=VARIABLES).contains(&n)
         || target.is_some_and(|target| target.len() != n)
-        || table.len() % 8 != 0
-        || table.len() > RECORDS * 8
-        || roots.len() % 2 != 0
-        || roots.len() > ROOTS * 2
+        || table.len() % RECORD_SIZE != 0
+        || table.len() > RECORDS * RECORD_SIZE
+        || roots.len() % ROOT_SIZE != 0
+        || roots.len() > ROOTS * ROOT_SIZE
     {
         return Err(Answer::Refused {
             number: 1,
@@ -235,14 +231,18 @@ fn judge(buffers: &Buffers, target: Option<&[u8]>) -> Result<usize, Answer> {
         return refused(3, place);
     }
 
-    let records: Vec<Record> = table.chunks_exact(8).map(Record::load).collect();
+    let records: Vec<Record> = table.chunks_exact(RECORD_SIZE).map(Record::load).collect();
     let wrong = |reference: u16| {
         reference >= 2
             && records
                 .get(reference as usize - 2)
                 .is_none_or(|record| record.variable == FREE)
     };
-    for (number, (record, bytes)) in records.iter().zip(table.chunks_exact(8)).enumerate() {
+    for (number, (record, bytes)) in records
+        .iter()
+        .zip(table.chunks_exact(RECORD_SIZE))
+        .enumerate()
+    {
         let malformed = if record.variable == FREE {
             bytes[1..] != [0; 7]
         } else {
@@ -321,7 +321,7 @@ fn levels(order: &[u8]) -> Result<Vec<usize>, usize> {
 }
 
 fn references(roots: &[u8]) -> impl Iterator<Item = u16> + '_ {
-    let pairs = roots.chunks_exact(2);
+    let pairs = roots.chunks_exact(ROOT_SIZE);
     pairs.map(|bytes| u16::from_le_bytes([bytes[0], bytes[1]]))
 }
 
@@ -378,7 +378,11 @@ struct Prepared {
 impl Diagram {
     fn load(buffers: &Buffers) -> Diagram {
         let mut diagram = Diagram {
-            records: buffers.table.chunks_exact(8).map(Record::load).collect(),
+            records: buffers
+                .table
+                .chunks_exact(RECORD_SIZE)
+                .map(Record::load)
+                .collect(),
             lists: vec![Vec::new(); buffers.order.len()],
             free: BTreeSet::new(),
             order: buffers.order.clone(),
@@ -410,7 +414,7 @@ impl Diagram {
         let changed = self.commit(swap);
         log::seal(buffers, &changed, level);
         for &number in &changed {
-            let bytes = &mut buffers.table[number as usize * 8..][..8];
+            let bytes = &mut buffers.table[number as usize * RECORD_SIZE..][..RECORD_SIZE];
             self.records[number as usize].store(bytes);
         }
         buffers.order.swap(level, level + 1);

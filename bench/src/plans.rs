@@ -1,8 +1,8 @@
 //! How far each plan brings the same random jobs in tables with little room:
 //! the share of jobs done, and the most records used on the way.
 
-use crate::generate::{self, Job, JOB_RECORDS, JOB_VARIABLES};
-use crate::library::{self, DONE, NO_ROOM, PAUSED};
+use crate::generate::{self, Job, JOB};
+use crate::library::{self, Numbers, DONE, NO_ROOM, PAUSED};
 use crate::ordinary::Plan;
 
 const JOBS: u64 = 300;
@@ -12,7 +12,10 @@ const FILLS: [usize; 3] = [95, 98, 100];
 const INPUTS: [usize; 4] = [5, 6, 7, 8];
 
 pub fn print() {
-    println!("{JOBS} jobs at each fill: {JOB_RECORDS} records, {JOB_VARIABLES} variables");
+    println!(
+        "{JOBS} jobs at each fill: {} records, {} variables",
+        JOB.records, JOB.variables
+    );
     println!("                           jobs done by       most used");
     println!("full  plan                it    any    all   mean  largest");
     for percent in FILLS {
@@ -40,7 +43,7 @@ type Ways = [Way; Plan::ALL.len()];
 fn way(job: &Job, plan: Plan) -> Way {
     let mut buffers = job.before.clone();
     let mut most = buffers.used();
-    let mut answer = [0; 6];
+    let mut answer = Numbers::default();
     loop {
         library::run(&mut buffers, &job.target, plan, 1, &mut answer);
         most = most.max(buffers.used());
@@ -69,8 +72,8 @@ fn print_rows(percent: usize, ways: &[Ways]) {
             share(by_it, ways.len()),
             share(by_any, ways.len()),
             share(by_all.len(), ways.len()),
-            share(most.clone().sum(), by_all.len() * JOB_RECORDS),
-            share(most.max().unwrap_or(0), JOB_RECORDS),
+            share(most.clone().sum(), by_all.len() * JOB.records),
+            share(most.max().unwrap_or(0), JOB.records),
         );
     }
 }

@@ -8,14 +8,19 @@ use std::hint::black_box;
 use std::process::ExitCode;
 use std::time::Instant;
 
+use crate::agree;
 use crate::buddy;
-use crate::crowded::{self, Crowded};
-use crate::generate::{self, Buffers, Case, PLAN, RECORDS};
-use crate::library;
-use crate::ordinary::{self, Answer, Counted, Plan};
+use crate::crowded::{self, Chains, Crowded};
+use crate::generate::{self, Buffers, Case, PLAN};
+use crate::library::{self, Numbers};
+use crate::limits::COUNTED;
+use crate::ordinary::{self, Counted};
+use crate::points::{self, Point, SLICE};
 
 pub fn print(repetitions: usize) -> ExitCode {
-    let cases = [(1, 8), (2, 13)].map(|(seed, inputs)| generate::full(seed, inputs));
+    agree::on_edges();
+    agree::on_log_short();
+    let cases = generate::full_tables();
     for case in &cases {
         if let Err(reason) = print_case(case, repetitions) {
             eprintln!("BuDDy: {reason}");
@@ -23,12 +28,13 @@ pub fn print(repetitions: usize) -> ExitCode {
         }
     }
     let crowded_tables = [
-        crowded::one_bucket(3),
+        crowded::one_bucket(2),
         crowded::buckets_of_5(1),
         crowded::buckets_of_6(1),
     ];
+    let [.., large_wide, _] = &cases;
     for crowded in crowded_tables {
-        print_crowded(&crowded, &cases[0].before, repetitions);
+        print_crowded(&crowded, large_wide, repetitions);
     }
     println!(
         "Microseconds, the least of {repetitions}; left the library, right the other program."
@@ -39,14 +45,17 @@ pub fn print(repetitions: usize) -> ExitCode {
 /// All rows of a table, or the reason why BuDDy's is missing.
 fn print_case(case: &Case, repetitions: usize) -> Result<(), String> {
     println!(
-        "{}: {} of {RECORDS} records used, order reversed in {} swaps",
+        "{}: {}, {} of {} records used, order of {} reversed in {} swaps",
         case.name,
+        case.functions,
         case.before.used(),
+        case.before.records(),
+        case.target.len(),
         case.swaps
     );
-    let states = states(case);
-    agree(case, &states);
-    let times = measure(case, &states, repetitions);
+    let points = points::spread(case);
+    agree::on_case(case, &points);
+    let times = measure(case, &points, repetitions);
     times.print();
     if let Some(program) = env::var_os("BUDDY") {
         let time = buddy::microseconds(&program, case, repetitions)?;
@@ -57,129 +66,54 @@ fn print_case(case: &Case, repetitions: usize) -> Result<(), String> {
     Ok(())
 }
 
-/// The check of a crowded table, which the first table's is timed beside.
-fn print_crowded(crowded: &Crowded, first: &Buffers, repetitions: usize) {
+/// The check of a crowded table, beside that of a table which isn't crowded.
+fn print_crowded(crowded: &Crowded, even: &Case, repetitions: usize) {
     println!(
-        "{}: {} of {RECORDS} records used, {} in the fullest bucket",
+        "{}: {} of {} records used, {}",
         crowded.name,
         crowded.buffers.used(),
-        crowded.fullest
+        crowded.buffers.records(),
+        chains_text(&crowded.chains)
     );
-    agree_on_check(&crowded.buffers);
-    let [mut ours, mut theirs, mut of_first] = [f64::INFINITY; 3];
+    agree::on_accepted(&crowded.buffers);
+    let mut check = [f64::INFINITY; 2];
+    let mut of_even = f64::INFINITY;
     for _ in 0..repetitions {
-        time_checks(&crowded.buffers, [&mut ours, &mut theirs]);
-        time_library_check(first, &mut of_first);
+        time_checks(&crowded.buffers, &mut check);
+        time_library_check(&even.before, &mut of_even);
     }
     header();
     println!(
-        "{}   and {:.2} times the check of the first table",
-        line(&format!("check, {}", crowded.name), [ours, theirs]),
-        ours / of_first
+        "{}   and {:.2} times the check of the {} table",
+        line(&format!("check, {}", crowded.name), check),
+        check[0] / of_even,
+        even.name
     );
     println!();
 }
 
-/// Both sides give the same answers and leave the same buffers.
-fn agree(case: &Case, states: &[State]) {
-    let mut answer = [0; 6];
-    let same = |count: usize, answer: &[u32; 6], expected: Answer| {
-        assert_eq!(answer[..count], expected.numbers(), "the answers differ");
+fn chains_text(chains: &Chains) -> String {
+    let end = match chains.given_up {
+        Some(record) => format!("given up at record {record}"),
+        None => "all made".to_string(),
     };
-
-    agree_on_check(&case.before);
-    agree_on_counts(&case.before);
-    agree_on_counts(&case.after);
-
-    for state in states {
-        let (mut ours, mut theirs) = (state.buffers.clone(), state.buffers.clone());
-        let count = library::swap(&mut ours, state.level as u32, &mut answer);
-        same(count, &answer, ordinary::swap(&mut theirs, state.level));
-        assert!(ours == theirs, "the buffers differ after a swap");
-
-        let (mut ours, mut theirs) = (state.cut.clone(), state.cut.clone());
-        let count = library::recover(&mut ours, &mut answer);
-        same(count, &answer, ordinary::recover(&mut theirs));
-        assert!(ours == theirs, "the buffers differ after a recovery");
-        let whole = ours.table == state.buffers.table && ours.order == state.buffers.order;
-        assert!(whole, "a recovery leaves something else than was before");
-    }
-
-    for plan in Plan::ALL {
-        let (mut ours, mut theirs) = (case.before.clone(), case.before.clone());
-        let count = library::run(&mut ours, &case.target, plan, u32::MAX, &mut answer);
-        let expected = ordinary::run(&mut theirs, &case.target, plan, u32::MAX);
-        same(count, &answer, expected);
-        assert!(ours == theirs, "the buffers differ after a run by {plan:?}");
-    }
-}
-
-/// Both sides accept the table and tell how many of its records are used.
-fn agree_on_check(buffers: &Buffers) {
-    let mut answer = [0; 6];
-    let used = buffers.used();
-    let accepted = Answer::Accepted { used };
-    let count = library::check(buffers, &mut answer);
-    assert_eq!(answer[..count], accepted.numbers(), "the library refuses");
-    assert_eq!(ordinary::check(buffers), accepted, "the other refuses");
-}
-
-/// Both sides count the same for each root, with a share of the same bits, and
-/// refuse the position after the last.
-fn agree_on_counts(buffers: &Buffers) {
-    let mut answer = [0; 6];
-    for position in 0..=buffers.roots.len() / 2 {
-        let mut counted = Counted::default();
-        let numbers = library::count(buffers, position as u32, &mut counted, &mut answer);
-        match ordinary::count(buffers, position) {
-            Ok(expected) => {
-                assert_eq!(answer[..numbers], [0], "root {position} isn't counted");
-                assert_eq!(counted.count, expected.count, "the counts differ");
-                let (ours, theirs) = (counted.share.to_bits(), expected.share.to_bits());
-                assert_eq!(ours, theirs, "the shares differ");
-            }
-            Err(refused) => assert_eq!(answer[..numbers], refused.numbers()),
-        }
-    }
-}
-
-/// The buffers before some swap of the run, its upper level, and the buffers as
-/// they are if supply is lost right before the swap's last store.
-struct State {
-    buffers: Buffers,
-    level: usize,
-    cut: Buffers,
-}
-
-/// One swap in 31 of the run, from the first on.
-fn states(case: &Case) -> Vec<State> {
-    let mut states = Vec::new();
-    let mut buffers = case.before.clone();
-    while let Some(level) = PLAN.next(&buffers.order, &case.target) {
-        let mut cut = buffers.clone();
-        ordinary::swap(&mut cut, level);
-        let seal = cut.log.len() - 16;
-        cut.log[seal] = 0xA5;
-        states.push(State {
-            buffers: buffers.clone(),
-            level,
-            cut,
-        });
-        ordinary::run(&mut buffers, &case.target, PLAN, 31);
-    }
-    states
+    format!(
+        "in {} buckets, {} in the fullest; {} steps, {end}",
+        chains.taken, chains.fullest, chains.steps
+    )
 }
 
 /// Least times in microseconds, of the library and of the ordinary program.
 struct Times {
     check: [f64; 2],
-    /// The mean of all roots, each by a call of its own.
-    count: [f64; 2],
-    /// The same without the check. Of the library it is a difference, since no
-    /// call leaves the check out.
-    count_alone: [f64; 2],
-    /// The mean of one swap in 31, each by a call of its own.
+    /// None where there are more variables than Count counts by.
+    count: Option<CountTimes>,
+    /// The mean of the swaps at the points, each by a call of its own.
     swap: [f64; 2],
+    /// The mean of the slices from the points, each by a call of its own.
+    slice: [f64; 2],
+    /// That of these slices whose ratio is the largest.
+    worst_slice: [f64; 2],
     /// The mean swap of the run: its time without that of its check.
     within: [f64; 2],
     /// All swaps by one call.
@@ -188,52 +122,57 @@ struct Times {
     recover: [f64; 2],
 }
 
-fn measure(case: &Case, states: &[State], repetitions: usize) -> Times {
-    let none = [f64::INFINITY; 2];
-    let mut check = none;
-    let mut counts = vec![[f64::INFINITY; 3]; case.before.roots.len() / 2];
-    let mut swaps = vec![none; states.len()];
-    let mut recoveries = vec![none; states.len()];
-    let mut run = none;
-    let mut answer = [0; 6];
-    for _ in 0..repetitions {
-        let [ours, theirs] = &mut check;
-        time_checks(&case.before, [ours, theirs]);
-        time_counts(&case.before, &mut counts);
-        time_swaps(states, &mut swaps);
-        time_recoveries(states, &mut recoveries);
+/// The mean of all roots, each by a call of its own.
+struct CountTimes {
+    with_check: [f64; 2],
+    /// Of the library it is a difference, since no call leaves the check out.
+    alone: [f64; 2],
+}
 
-        let [ours, theirs] = &mut run;
-        let mut buffers = case.before.clone();
-        least(ours, || {
-            library::run(&mut buffers, &case.target, PLAN, u32::MAX, &mut answer)
-        });
-        let mut buffers = case.before.clone();
-        least(theirs, || {
-            ordinary::run(&mut buffers, &case.target, PLAN, u32::MAX)
-        });
-        black_box(&buffers);
+fn measure(case: &Case, points: &[Point], repetitions: usize) -> Times {
+    let none = [f64::INFINITY; 2];
+    let counted = case.target.len() <= COUNTED;
+    let mut check = none;
+    let mut counts = vec![[f64::INFINITY; 3]; case.before.positions()];
+    let mut swaps = vec![none; points.len()];
+    let mut slices = swaps.clone();
+    let mut recoveries = swaps.clone();
+    let mut run = none;
+    for _ in 0..repetitions {
+        time_checks(&case.before, &mut check);
+        if counted {
+            time_counts(&case.before, &mut counts);
+        }
+        time_swaps(points, &mut swaps);
+        for (point, slice) in points.iter().zip(&mut slices) {
+            time_run(&point.buffers, &case.target, SLICE, slice);
+        }
+        time_recoveries(points, &mut recoveries);
+        time_run(&case.before, &case.target, u32::MAX, &mut run);
     }
-    let count = [mean(&counts, 0), mean(&counts, 1)];
     let within = |side: usize| (run[side] - check[side]) / f64::from(case.swaps);
     Times {
         check,
-        count,
-        count_alone: [count[0] - check[0], mean(&counts, 2)],
-        swap: [mean(&swaps, 0), mean(&swaps, 1)],
+        count: counted.then(|| CountTimes {
+            with_check: [mean(&counts, 0), mean(&counts, 1)],
+            alone: [mean(&counts, 0) - check[0], mean(&counts, 2)],
+        }),
+        swap: means(&swaps),
+        slice: means(&slices),
+        worst_slice: worst(&slices),
         within: [within(0), within(1)],
         run,
-        recover: [mean(&recoveries, 0), mean(&recoveries, 1)],
+        recover: means(&recoveries),
     }
 }
 
-fn time_checks(buffers: &Buffers, [ours, theirs]: [&mut f64; 2]) {
+fn time_checks(buffers: &Buffers, [ours, theirs]: &mut [f64; 2]) {
     time_library_check(buffers, ours);
     least(theirs, || ordinary::check(black_box(buffers)));
 }
 
 fn time_library_check(buffers: &Buffers, best: &mut f64) {
-    let mut answer = [0; 6];
+    let mut answer = Numbers::default();
     least(best, || library::check(black_box(buffers), &mut answer));
 }
 
@@ -241,7 +180,7 @@ fn time_library_check(buffers: &Buffers, best: &mut f64) {
 /// ordinary program's without its check.
 fn time_counts(buffers: &Buffers, counts: &mut [[f64; 3]]) {
     let mut counted = Counted::default();
-    let mut answer = [0; 6];
+    let mut answer = Numbers::default();
     for (position, [ours, theirs, alone]) in counts.iter_mut().enumerate() {
         let number = position as u32;
         least(ours, || {
@@ -254,36 +193,60 @@ fn time_counts(buffers: &Buffers, counts: &mut [[f64; 3]]) {
     }
 }
 
-/// The swap of each state.
-fn time_swaps(states: &[State], swaps: &mut [[f64; 2]]) {
-    let mut answer = [0; 6];
-    for (state, [ours, theirs]) in states.iter().zip(swaps) {
-        let mut buffers = state.buffers.clone();
+/// The swap at each point.
+fn time_swaps(points: &[Point], swaps: &mut [[f64; 2]]) {
+    let mut answer = Numbers::default();
+    for (point, [ours, theirs]) in points.iter().zip(swaps) {
+        let mut buffers = point.buffers.clone();
         least(ours, || {
-            library::swap(&mut buffers, state.level as u32, &mut answer)
+            library::swap(&mut buffers, point.level as u32, &mut answer)
         });
-        let mut buffers = state.buffers.clone();
-        least(theirs, || ordinary::swap(&mut buffers, state.level));
+        let mut buffers = point.buffers.clone();
+        least(theirs, || ordinary::swap(&mut buffers, point.level));
         black_box(&buffers);
     }
 }
 
-/// The recovery from a cut at the end of each state's swap.
-fn time_recoveries(states: &[State], recoveries: &mut [[f64; 2]]) {
-    let mut answer = [0; 6];
-    for (state, [ours, theirs]) in states.iter().zip(recoveries) {
-        let mut buffers = state.cut.clone();
+/// One call with that budget.
+fn time_run(before: &Buffers, target: &[u8], budget: u32, [ours, theirs]: &mut [f64; 2]) {
+    let mut answer = Numbers::default();
+    let mut buffers = before.clone();
+    least(ours, || {
+        library::run(&mut buffers, target, PLAN, budget, &mut answer)
+    });
+    let mut buffers = before.clone();
+    least(theirs, || ordinary::run(&mut buffers, target, PLAN, budget));
+    black_box(&buffers);
+}
+
+/// The recovery from a cut at the end of each point's swap.
+fn time_recoveries(points: &[Point], recoveries: &mut [[f64; 2]]) {
+    let mut answer = Numbers::default();
+    for (point, [ours, theirs]) in points.iter().zip(recoveries) {
+        let mut buffers = point.cut.clone();
         least(ours, || library::recover(&mut buffers, &mut answer));
-        let mut buffers = state.cut.clone();
+        let mut buffers = point.cut.clone();
         least(theirs, || ordinary::recover(&mut buffers));
         black_box(&buffers);
     }
+}
+
+/// The mean of each side.
+fn means(times: &[[f64; 2]]) -> [f64; 2] {
+    [mean(times, 0), mean(times, 1)]
 }
 
 /// The mean of one column.
 fn mean<const COLUMNS: usize>(times: &[[f64; COLUMNS]], column: usize) -> f64 {
     let sum: f64 = times.iter().map(|row| row[column]).sum();
     sum / times.len() as f64
+}
+
+/// The times whose ratio is the largest.
+fn worst(times: &[[f64; 2]]) -> [f64; 2] {
+    let ratio = |[ours, theirs]: &[f64; 2]| ours / theirs;
+    let by_ratio = times.iter().max_by(|a, b| ratio(a).total_cmp(&ratio(b)));
+    *by_ratio.expect("a run has points")
 }
 
 fn least<T>(best: &mut f64, work: impl FnOnce() -> T) {
@@ -298,9 +261,13 @@ impl Times {
     fn print(&self) {
         header();
         row("check", self.check);
-        row("count, with its check", self.count);
-        row("count alone", self.count_alone);
+        if let Some(count) = &self.count {
+            row("count, with its check", count.with_check);
+            row("count alone", count.alone);
+        }
         row("swap, a call of its own", self.swap);
+        row(&format!("slice of {SLICE} swaps"), self.slice);
+        row("slice, the worst of them", self.worst_slice);
         row("swap, within the run", self.within);
         row("full run", self.run);
         row("recover, all of a swap", self.recover);

@@ -4,7 +4,7 @@ use crate::hold::{hold_library_to, Expected};
 use crate::input::Input;
 use crate::lists::Lengths;
 use crate::model::{answer, Answer, Question};
-use crate::{depths, edges, label_edges, log_sheet, recover_sheet, sheet};
+use crate::{depths, edges, label_edges, log_sheet, recover_sheet, sheet, wide_sheet};
 
 /// A question, and the answer and the buffers afterwards as the rules say.
 #[derive(Clone)]
@@ -107,6 +107,7 @@ pub fn cases() -> Vec<Case> {
         sheet::cases(),
         log_sheet::cases(),
         recover_sheet::cases(),
+        wide_sheet::cases(),
         depths::cases(),
         label_edges::cases(),
     ]

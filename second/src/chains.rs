@@ -12,7 +12,18 @@ pub const FEWEST_FOR_CHAINS: usize = 24;
 pub const MOST_STEPS: usize = 2 * MOST_RECORDS;
 
 /// So many records of one bucket take more steps than that by themselves.
-pub const FEWEST_OF_A_CROWD: usize = 129;
+pub const FEWEST_OF_A_CROWD: usize = {
+    let mut count = 1;
+    while steps_of(count) <= MOST_STEPS {
+        count += 1;
+    }
+    count
+};
+
+/// The steps of so many records of one bucket: each goes past all before it.
+pub const fn steps_of(count: usize) -> usize {
+    count * (count - 1) / 2
+}
 
 /// The walks of all used records, as if no repeat ended them.
 pub struct Walks {
@@ -61,10 +72,10 @@ mod tests {
     #[test]
     fn a_crowd_is_what_gives_the_chains_up() {
         let fewer = alike(FEWEST_OF_A_CROWD - 1);
-        assert_eq!(walks(fewer.store()).steps, 8_128);
+        assert_eq!(walks(fewer.store()).steps, 16_290);
         assert_eq!(walks(fewer.store()).given_up, None);
         let crowd = alike(FEWEST_OF_A_CROWD + 2);
-        assert_eq!(walks(crowd.store()).steps, 8_515);
+        assert_eq!(walks(crowd.store()).steps, 16_836);
         let last_of_a_crowd = RecordNumber(FEWEST_OF_A_CROWD);
         assert_eq!(walks(crowd.store()).given_up, Some(last_of_a_crowd));
     }

@@ -3,6 +3,7 @@
 pub mod check;
 pub mod count;
 pub mod cuts;
+mod job;
 pub mod label;
 pub mod program;
 mod program_labels;
@@ -11,6 +12,7 @@ pub mod recover;
 pub mod repeats;
 pub mod run;
 pub mod show;
+mod sizes;
 pub mod stores;
 pub mod swap;
 mod with_log;
@@ -19,6 +21,7 @@ use crate::counts_kept::counts_kept;
 use crate::hold::{hold_library_to, Expected};
 use crate::input::Input;
 use crate::labels::{Label, List};
+use crate::layout::MOST_COUNTED;
 use crate::lists::Lengths;
 use crate::model::{answer, Answer, Question};
 use crate::random::Random;
@@ -93,9 +96,9 @@ struct KeptCounts {
 
 /// Once in how many of those that are refused, where nothing has changed.
 const REFUSED_COUNTED_ONCE_IN: usize = 20;
-/// Each call compares every record with all earlier ones: where that makes more
-/// than this for all roots together, it would take too long.
-const MOST_COMPARISONS: usize = 1 << 24;
+/// Each call goes over all records: where these are more than so many for all
+/// roots together, it would take too long.
+const MOST_RECORDS_COUNTED: usize = 1 << 17;
 
 /// A tally with lines more for the counts that swaps or runs with each of these
 /// answers kept.
@@ -113,7 +116,7 @@ fn counts_kept_after(answer: &str) -> String {
 }
 
 /// Now and then the library is held to keep every root's count, whatever a swap
-/// or run was answered.
+/// or run was answered, where there are not too many inputs to count.
 fn hold_to_counts_kept(
     kept: &KeptCounts,
     before: &Input,
@@ -126,7 +129,7 @@ fn hold_to_counts_kept(
         Answer::Refused(_) => (REFUSED_COUNTED_ONCE_IN, "refused".to_string()),
         other => (kept.once_in, name(other)),
     };
-    if !random.once_in(once_in) || takes_too_long(before) {
+    if !random.once_in(once_in) || takes_too_long(before) || before.order.len() > MOST_COUNTED {
         return Ok(());
     }
     for _ in 0..counts_kept(before, after)? {
@@ -138,8 +141,7 @@ fn hold_to_counts_kept(
 }
 
 fn takes_too_long(input: &Input) -> bool {
-    let used = input.store().used().count();
-    used * used * input.root_list().len() > MOST_COMPARISONS
+    input.store().record_count() * input.root_list().len() > MOST_RECORDS_COUNTED
 }
 
 /// A position of these roots, or one past them, near and far.

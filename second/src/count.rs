@@ -15,7 +15,7 @@ pub fn count(store: Store, root: Reference) -> u64 {
     } else {
         by_levels(store, root)
     };
-    u64::try_from(count).expect("there are 2^32 combinations at most")
+    u64::try_from(count).expect("check 16 has passed: there are 2^52 combinations at most")
 }
 
 /// The binary digits of a combination's number are its inputs.

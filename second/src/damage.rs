@@ -27,9 +27,9 @@ const fn aimed(
 
 pub const AIMED: [Aimed; 38] = [
     aimed(1, "n = 0", no_order),
-    aimed(1, "n over 32", order_too_long),
+    aimed(1, "n over its limit", order_too_long),
     aimed(1, "table length not a multiple of 8", table_ragged),
-    aimed(1, "table over 32,768 bytes", table_too_long),
+    aimed(1, "table over its limit", table_too_long),
     aimed(1, "odd number of root bytes", roots_odd),
     aimed(1, "more than 64 roots", roots_too_many),
     aimed(2, "order out of range", order_out_of_range),

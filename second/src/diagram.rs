@@ -5,7 +5,7 @@ use std::collections::HashMap;
 
 use crate::random::Random;
 
-#[derive(Clone, Copy, Debug, PartialEq, Eq, Hash)]
+#[derive(Clone, Copy, Debug, PartialEq, Eq, PartialOrd, Ord, Hash)]
 pub enum Edge {
     Constant(bool),
     Node(usize),
@@ -46,7 +46,7 @@ impl Diagram {
 
     /// The node with these parts, made only where it is needed: never with
     /// equal children, never twice.
-    fn node(&mut self, level: usize, low: Edge, high: Edge) -> Edge {
+    pub fn node(&mut self, level: usize, low: Edge, high: Edge) -> Edge {
         if low == high {
             return low;
         }

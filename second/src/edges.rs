@@ -28,15 +28,21 @@ pub fn cases() -> Vec<Case> {
     .collect()
 }
 
-/// Count refuses what Check refuses, and otherwise that there is no root so far
-/// on.
+/// Count refuses what Check refuses, otherwise that there are more than 52
+/// inputs, and otherwise that there is no root so far on.
 fn counted(case: &Case) -> Case {
     let no_such_root = Refusal {
         number: 10,
         place: u32::MAX as usize,
     };
+    let n = case.input.order.len();
+    let too_many = Refusal {
+        number: 16,
+        place: n,
+    };
     let refusal = match case.expected.answer {
         Answer::Refused(refusal) => refusal,
+        _ if n > 52 => too_many,
         _ => no_such_root,
     };
     let position = u32::MAX;
@@ -72,19 +78,28 @@ fn lengths() -> Vec<Case> {
         accepted("nothing stored, n = 1", 0, with_n(1)),
         accepted("n = 2", 0, with_n(2)),
         accepted("n = 32", 0, with_n(32)),
+        accepted("n = 33", 0, with_n(33)),
+        accepted("n = 52", 0, with_n(52)),
+        accepted("n = 53", 0, with_n(53)),
+        accepted("n = 63", 0, with_n(63)),
+        accepted("n = 64", 0, with_n(64)),
         refused("n = 0", 1, 0, with_n(0)),
-        refused("n = 33", 1, 0, with_n(33)),
+        refused("n = 65", 1, 0, with_n(65)),
+        refused("n = 128", 1, 0, with_n(128)),
         refused("n = 255", 1, 0, with_n(255)),
         accepted("8 table bytes", 0, with_bytes(8)),
         refused("1 table byte", 1, 0, with_bytes(1)),
         refused("7 table bytes", 1, 0, with_bytes(7)),
         refused("9 table bytes", 1, 0, with_bytes(9)),
         accepted("32,768 table bytes", 0, with_bytes(32_768)),
-        accepted("32,760 table bytes", 0, with_bytes(32_760)),
-        refused("32,767 table bytes", 1, 0, with_bytes(32_767)),
-        refused("32,769 table bytes", 1, 0, with_bytes(32_769)),
-        refused("32,776 table bytes", 1, 0, with_bytes(32_776)),
-        refused("65,536 table bytes", 1, 0, with_bytes(65_536)),
+        accepted("32,776 table bytes", 0, with_bytes(32_776)),
+        accepted("65,528 table bytes", 0, with_bytes(65_528)),
+        accepted("65,536 table bytes", 0, with_bytes(65_536)),
+        refused("65,535 table bytes", 1, 0, with_bytes(65_535)),
+        refused("65,537 table bytes", 1, 0, with_bytes(65_537)),
+        refused("65,543 table bytes", 1, 0, with_bytes(65_543)),
+        refused("65,544 table bytes", 1, 0, with_bytes(65_544)),
+        refused("131,072 table bytes", 1, 0, with_bytes(131_072)),
         accepted("64 roots", 0, with_root_bytes(128)),
         refused("65 roots", 1, 0, with_root_bytes(130)),
         refused("256 roots", 1, 0, with_root_bytes(512)),
@@ -136,26 +151,39 @@ fn bench_sheet_afterwards() -> Vec<Case> {
 
 /// References that need both of their bytes.
 fn wide_references() -> Vec<Case> {
-    let mut last_used = vec![FREE; 4_096];
-    last_used[4_095] = used(0, 1, 0);
+    let mut last_used = vec![FREE; 8_192];
+    last_used[8_191] = used(0, 1, 0);
+    let mut last_child = last_used.clone();
+    last_child[0] = used(0, 0, 8_193);
+    last_child[8_191] = used(63, 1, 0);
+    let mut past_the_last = last_child.clone();
+    past_the_last[0] = used(0, 0, 8_194);
+    let order: Vec<u8> = (0..64).collect();
     let mut far_child = vec![FREE; 257];
     far_child[0] = used(0, 258, 1);
     far_child[256] = used(1, 0, 1);
     let mut too_far = far_child.clone();
     too_far[0] = used(0, 259, 1);
     vec![
-        accepted("root to record 4,095", 1, input(&last_used, &[4_097], &[0])),
+        accepted("root to record 8,191", 1, input(&last_used, &[8_193], &[0])),
         refused(
-            "root to 4,096",
+            "root to 8,192",
             8,
             1,
-            input(&last_used, &[4_097, 4_098], &[0]),
+            input(&last_used, &[8_193, 8_194], &[0]),
         ),
         refused(
-            "root to 4,094",
+            "root to 8,190",
             8,
             0,
-            input(&last_used, &[4_096, 4_097], &[0]),
+            input(&last_used, &[8_192, 8_193], &[0]),
+        ),
+        accepted("child record 8,191", 2, input(&last_child, &[2], &order)),
+        refused(
+            "child 8,192 of 8,192",
+            4,
+            0,
+            input(&past_the_last, &[2, 8_193], &order),
         ),
         accepted("child record 256", 2, input(&far_child, &[2], &[0, 1])),
         refused("child 256 above", 5, 0, input(&far_child, &[2], &[1, 0])),

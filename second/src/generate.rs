@@ -5,7 +5,9 @@ use std::collections::HashMap;
 
 use crate::diagram::{Diagram, Edge};
 use crate::input::Input;
-use crate::layout::{Record, RecordNumber, Reference, MOST_RECORDS, MOST_ROOTS, MOST_VARIABLES};
+use crate::layout::{
+    Record, RecordNumber, Reference, MOST_COUNTED, MOST_RECORDS, MOST_ROOTS, MOST_VARIABLES,
+};
 use crate::random::Random;
 
 /// What is wanted of a diagram. Fewer records are used where the variables
@@ -73,13 +75,29 @@ pub fn big(random: &mut Random) -> Input {
     of_shape(&shape, random).0
 }
 
+/// A random accepted input of as many records and variables as there may be, few
+/// of them used: a swap there has little to do.
+pub fn spacious(random: &mut Random) -> Input {
+    let used = random.between(MOST_VARIABLES, 3 * MOST_VARIABLES);
+    let shape = Shape {
+        n: MOST_VARIABLES,
+        used,
+        free: MOST_RECORDS,
+        most_tops: random.between(1, 8),
+        function_once_in: random.between(1, 4),
+    };
+    of_shape(&shape, random).0
+}
+
 /// A random accepted input whose records stand on every level, one below the
-/// other: a root's count there takes as many binary digits as there are.
+/// other: a root's count there takes as many binary digits as there are. Often
+/// there are as many variables as can be counted, or one more.
 pub fn deep(random: &mut Random) -> Input {
-    let n = if random.coin() {
-        MOST_VARIABLES
-    } else {
-        random.between(1, MOST_VARIABLES)
+    let n = match random.below(10) {
+        0..=3 => MOST_COUNTED,
+        4 => MOST_COUNTED + 1,
+        5 => MOST_VARIABLES,
+        _ => random.between(1, MOST_VARIABLES),
     };
     let mut diagram = Diagram::new(n);
     diagram.climb(random);
@@ -92,7 +110,7 @@ pub fn deep(random: &mut Random) -> Input {
 pub fn all_used(used: usize, random: &mut Random) -> Input {
     let shape = match used {
         0..80 => Shape {
-            n: random.between(1, MOST_VARIABLES),
+            n: random_n(1, random),
             ..with_room_for_roots(used, random)
         },
         80..1_000 => with_room_for_roots(used, random),
@@ -108,7 +126,7 @@ pub fn all_used(used: usize, random: &mut Random) -> Input {
 /// Many levels, and half of the roots at most.
 fn with_room_for_roots(used: usize, random: &mut Random) -> Shape {
     Shape {
-        n: random.between(MOST_VARIABLES / 2, MOST_VARIABLES),
+        n: random_n(MOST_VARIABLES / 2, random),
         used,
         free: 0,
         most_tops: random.between(1, MOST_ROOTS / 2),
@@ -182,10 +200,21 @@ fn random_shape(random: &mut Random) -> Shape {
     }
 }
 
+/// At least so many variables, and often as many as there may be.
+fn random_n(fewest: usize, random: &mut Random) -> usize {
+    if random.once_in(4) {
+        MOST_VARIABLES
+    } else {
+        random.between(fewest, MOST_VARIABLES)
+    }
+}
+
 fn small(random: &mut Random) -> Shape {
-    let most_n = if random.coin() { 5 } else { MOST_VARIABLES };
     Shape {
-        n: random.between(1, most_n),
+        n: match random.coin() {
+            true => random.between(1, 5),
+            false => random_n(1, random),
+        },
         used: random.below(13),
         free: random_free(6, random),
         most_tops: random.between(1, 8),
@@ -195,7 +224,7 @@ fn small(random: &mut Random) -> Shape {
 
 fn medium(random: &mut Random) -> Shape {
     Shape {
-        n: random.between(1, MOST_VARIABLES),
+        n: random_n(1, random),
         used: random.below(80),
         free: random_free(80, random),
         most_tops: random.between(1, MOST_ROOTS),
@@ -205,7 +234,7 @@ fn medium(random: &mut Random) -> Shape {
 
 fn hundreds(random: &mut Random) -> Shape {
     Shape {
-        n: random.between(4, MOST_VARIABLES),
+        n: random_n(4, random),
         used: random.between(80, 800),
         free: random_free(800, random),
         most_tops: random.between(1, MOST_ROOTS),
@@ -213,12 +242,12 @@ fn hundreds(random: &mut Random) -> Shape {
     }
 }
 
-/// Up to 4,096 records, some or none of them used.
+/// Up to the longest table, with some or none of its records used.
 fn large(random: &mut Random) -> Shape {
     let records = random.between(1_000, MOST_RECORDS);
     let used = random.below(records + 1);
     Shape {
-        n: random.between(1, MOST_VARIABLES),
+        n: random_n(1, random),
         used,
         free: records - used,
         most_tops: random.between(1, MOST_ROOTS),
@@ -226,11 +255,11 @@ fn large(random: &mut Random) -> Shape {
     }
 }
 
-/// 4,096 records, many of them free.
+/// The longest table, with many of its records free.
 fn longest(random: &mut Random) -> Shape {
     let used = random.between(100, MOST_RECORDS / 2);
     Shape {
-        n: random.between(8, MOST_VARIABLES),
+        n: random_n(8, random),
         used,
         free: MOST_RECORDS - used,
         most_tops: random.between(1, MOST_ROOTS),
@@ -238,11 +267,11 @@ fn longest(random: &mut Random) -> Shape {
     }
 }
 
-/// 4,096 records, all of them used, or all but a few.
+/// The longest table, with all of its records used, or all but a few.
 fn brimful(random: &mut Random) -> Shape {
     let free = random_free(3, random);
     Shape {
-        n: random.between(16, MOST_VARIABLES),
+        n: random_n(16, random),
         used: MOST_RECORDS - free,
         free,
         most_tops: MOST_ROOTS,
@@ -290,7 +319,7 @@ fn random_function(n: usize, room: usize, random: &mut Random) -> (Vec<usize>, V
 
 /// The diagram's nodes as records with random numbers, the others free, no
 /// roots yet; and the reference to each node.
-fn placed(
+pub fn placed(
     diagram: &Diagram,
     records: usize,
     order: Vec<u8>,
@@ -363,7 +392,7 @@ mod tests {
             let free = random.below(5);
             let mut moved = with_free(&input, free, random);
             assert_eq!(moved.free_numbers().len(), free);
-            if moved.table.len() <= 32_768 {
+            if moved.store().record_count() <= MOST_RECORDS {
                 assert_eq!(answer(&mut moved, &Question::Check), wanted, "seed {seed}");
             }
         }

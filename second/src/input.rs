@@ -27,8 +27,8 @@ impl Input {
         Input { log, ..self }
     }
 
-    /// With an empty log that is short for no swap: it holds an entry for every
-    /// record and one for the pair, or as many as a log can hold.
+    /// With an empty log that holds an entry for every record and one for the
+    /// pair, or as many as a log can: of a large table more may change.
     pub fn with_enough_log(self) -> Input {
         let records = self.store().record_count() + 2;
         self.with_log(empty_log(records.min(MOST_LOG_RECORDS)))

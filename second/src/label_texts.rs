@@ -5,7 +5,7 @@ use crate::by_hand::label_record;
 use crate::generate::all_used;
 use crate::printed::{Files, FACTORY, SITE};
 use crate::random::Random;
-use crate::texts::{a, b_both_named, files, with_plan};
+use crate::texts::{a, b_both_named, files, listed, with_plan};
 
 pub fn cases() -> Vec<(Files, Vec<u8>)> {
     let mut cases = [
@@ -281,43 +281,27 @@ fn refused() -> Vec<(Files, Vec<u8>)> {
     runs.iter().flat_map(cases).collect()
 }
 
-/// All that a listing can have: 4,096 used records, each with a label of 15
+/// All that a listing can have: 8,192 used records, each with a label of 15
 /// bytes, for the first 16 variables one of the site; and 64 roots.
 fn every_record_labelled() -> (Files, Vec<u8>) {
-    let store = all_used(4_096, &mut Random::from_seed(FULL_SEED));
+    let store = all_used(8_192, &mut Random::from_seed(FULL_SEED));
     let label = |owner: &str, variable: u8| format!("{owner:<12}{variable:03}");
     let list = |owner, variables: u8| -> Vec<u8> {
         let record = |variable| label_record(variable, label(owner, variable).as_bytes());
         (0..variables).flat_map(record).collect()
     };
-
-    let mut text = String::from("plan 0\ndone swaps 0 left 0\norder");
-    for variable in &store.order {
-        text += &format!(" {variable}");
-    }
-    text += "\n";
-    for (number, record) in store.table.chunks(8).enumerate() {
-        let variable = record[0];
-        let [low, high] = [2, 4].map(|at| u16::from_le_bytes([record[at], record[at + 1]]));
+    let printed = |variable| {
         let owner = if variable < 16 { "site" } else { "factory" };
-        text += &format!(
-            "{number} {variable} {low} {high}\n{}\n",
-            label(owner, variable)
-        );
-    }
-    text += "roots";
-    for root in store.roots.chunks(2) {
-        text += &format!(" {}", u16::from_le_bytes([root[0], root[1]]));
-    }
-    text += "\n";
-
+        Some(label(owner, variable))
+    };
+    let text = format!("plan 0\ndone swaps 0 left 0\n{}", listed(&store, printed));
     let files = files(&store.table, &store.roots, &store.order, &store.order);
-    let labelled = with_labels(&files, &list("site", 16), &list("factory", 32));
+    let labelled = with_labels(&files, &list("site", 16), &list("factory", 64));
     (labelled, text.into_bytes())
 }
 
-/// What comes from this seed has 4,096 used records, 32 variables and 64 roots.
-const FULL_SEED: u64 = 1;
+/// What comes from this seed has 8,192 used records, 64 variables and 64 roots.
+const FULL_SEED: u64 = 0;
 
 #[cfg(test)]
 mod tests {
@@ -335,9 +319,9 @@ mod tests {
             order,
             ..Input::default()
         };
-        let wanted = Answer::Accepted { used: 4_096 };
+        let wanted = Answer::Accepted { used: 8_192 };
         assert_eq!(answer(&mut input, &Question::Check), wanted);
-        assert_eq!(input.order.len(), 32);
+        assert_eq!(input.order.len(), 64);
         assert_eq!(input.root_list().len(), 64);
     }
 }

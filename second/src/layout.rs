@@ -4,14 +4,17 @@ use std::collections::HashSet;
 
 /// The table: at most so many records of so many bytes.
 pub const RECORD_BYTES: usize = 8;
-pub const MOST_RECORDS: usize = 4_096;
+pub const MOST_RECORDS: usize = 8_192;
 
 /// The roots: at most so many references of so many bytes.
 pub const ROOT_BYTES: usize = 2;
 pub const MOST_ROOTS: usize = 64;
 
 /// n is at least 1 and at most this.
-pub const MOST_VARIABLES: usize = 32;
+pub const MOST_VARIABLES: usize = 64;
+
+/// Up to this n a root is counted: a double holds every count exactly.
+pub const MOST_COUNTED: usize = 52;
 
 /// Byte 0 of a free record, and the whole of a well-formed one.
 pub const FREE: u8 = 255;
@@ -37,7 +40,10 @@ impl Reference {
 
     /// The reference that names this record.
     pub fn to(number: RecordNumber) -> Reference {
-        Reference(u16::try_from(number.0 + 2).expect("a record number is below 4,096"))
+        Reference(
+            u16::try_from(number.0 + 2)
+                .expect("a record number has 16 bits, with room for the constants"),
+        )
     }
 
     /// The record that this names, two below it; none for a constant.

@@ -17,12 +17,12 @@ pub fn random_log(input: &Input, needs: &[usize], random: &mut Random) -> Vec<u8
     let most = needs.iter().copied().max().unwrap_or(need);
     match random.below(100) {
         0..=31 => cleared(input, most + 1, random),
-        32..=59 => cleared(input, most + random.between(2, 12), random),
+        32..=58 => cleared(input, most + random.between(2, 12), random),
         60..=61 => cleared(input, MOST_LOG_RECORDS, random),
-        62..=67 => cleared(input, need, random),
-        68..=75 => cleared(input, most, random),
-        76..=78 => cleared(input, random.between(1, need), random),
-        79..=82 => cleared(input, 1, random),
+        62..=65 => cleared(input, need, random),
+        66..=75 => cleared(input, most, random),
+        76 => cleared(input, random.between(1, need), random),
+        59 | 77..=82 => cleared(input, 1, random),
         83..=85 => wrong_length(random_log_records(random), random),
         86..=91 => sealed(input, random_log_records(random), random),
         _ => bad(input, random),

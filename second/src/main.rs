@@ -7,8 +7,8 @@
 //! reading to what it must keep. `library` is the other side, in a process of
 //! its own, `hold` and `compare` ask both, and `counts_kept` holds the library to
 //! what it must keep. The cases made by hand are in `edges`, `sheet`,
-//! `log_sheet`, `recover_sheet`, `depths`, `label_edges`, `texts` and
-//! `label_texts`; the rest makes random ones.
+//! `log_sheet`, `recover_sheet`, `wide_sheet`, `depths`, `label_edges`, `texts`
+//! and `label_texts`; the rest makes random ones.
 
 mod bucket;
 mod by_hand;
@@ -58,6 +58,8 @@ mod swap;
 mod tally;
 mod texts;
 mod value;
+mod wide;
+mod wide_sheet;
 mod wild;
 
 use std::env;

@@ -169,7 +169,12 @@ fn arguments<'a>(input: &'a Input, question: &'a Question) -> Arguments<'a> {
             inputs: Some(inputs),
             ..none
         },
-        Question::Show { position } | Question::Count { position } => Arguments {
+        Question::Show { position } => Arguments {
+            position: Some(*position),
+            ..none
+        },
+        Question::Count { position } => Arguments {
+            counts: true,
             position: Some(*position),
             ..none
         },

@@ -70,17 +70,16 @@ fn inverted_neighbours<'a>(
         .map(|(upper, _)| upper)
 }
 
-/// Left: the number of inversions.
+/// Left: the number of inversions. Each variable is looked for in the target
+/// once, not for each pair.
 pub fn left(order: &[u8], target: &[u8]) -> usize {
-    let mut inversions = 0;
-    for upper in 0..order.len() {
-        for lower in upper + 1..order.len() {
-            if is_inversion(order[upper], order[lower], target) {
-                inversions += 1;
-            }
-        }
-    }
-    inversions
+    let levels = order.iter().map(|&variable| level_of(variable, target));
+    let levels: Vec<usize> = levels.collect();
+    let inversions_of = |upper: usize| {
+        let below = levels[upper + 1..].iter();
+        below.filter(|&&lower| levels[upper] > lower).count()
+    };
+    (0..levels.len()).map(inversions_of).sum()
 }
 
 /// Of two variables, the first above the second in the order: does the target

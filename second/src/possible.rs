@@ -3,7 +3,7 @@
 
 use std::collections::HashSet;
 
-use crate::bucket::{bucket, fullest};
+use crate::bucket::{fullest, Highs, BUCKETS};
 use crate::input::Input;
 use crate::layout::{Record, Reference, Variable};
 use crate::random::Random;
@@ -11,7 +11,7 @@ use crate::random::Random;
 /// So many draws that were of no use end the search for a record.
 const MOST_MISSES: usize = 100;
 /// So many records tell well enough which bucket can be filled.
-const MOST_SOUNDED: usize = 60_000;
+const MOST_SOUNDED: usize = 6 * BUCKETS;
 
 pub struct Possible {
     levels: Vec<Level>,
@@ -25,6 +25,11 @@ struct Level {
 }
 
 impl Level {
+    /// All that it can have, those with one low together.
+    fn records(&self) -> impl Iterator<Item = Record> + '_ {
+        self.below.iter().flat_map(|&low| self.row(low))
+    }
+
     fn row(&self, low: Reference) -> impl Iterator<Item = Record> + '_ {
         let highs = self.below.iter().filter(move |&&high| high != low);
         highs.map(move |&high| Record {
@@ -61,15 +66,17 @@ impl Possible {
     pub fn of_one_bucket(&self, count: usize, random: &mut Random) -> Option<Vec<Record>> {
         let mut levels: Vec<&Level> = self.levels.iter().collect();
         random.shuffle(&mut levels);
-        let fullest = fullest(rows_of(&levels).flatten().take(MOST_SOUNDED));
-        let mut found = Vec::new();
-        for row in rows_of(&levels) {
-            found.extend(row.filter(|&record| bucket(record) == fullest && self.is_new(record)));
-            if found.len() >= count {
-                break;
-            }
-        }
-        found.truncate(count);
+        let sounded = levels.iter().flat_map(|level| level.records());
+        let fullest = fullest(sounded.take(MOST_SOUNDED));
+        let of_level = |level: &Level| {
+            let highs = Highs::of(&level.below);
+            let of_low = |&low| highs.records_of(fullest, level.variable, low);
+            let found = level.below.iter().flat_map(of_low);
+            let found = found.filter(|&record| record.low != record.high && self.is_new(record));
+            found.collect::<Vec<Record>>()
+        };
+        let found = levels.into_iter().flat_map(of_level);
+        let mut found: Vec<Record> = found.take(count).collect();
         random.shuffle(&mut found);
         (found.len() == count).then_some(found)
     }
@@ -152,14 +159,4 @@ fn levels(input: &Input, random: &mut Random) -> Vec<Level> {
         }
     };
     (0..input.order.len()).map(at).collect()
-}
-
-/// All records that these levels can have, those with one variable and low
-/// together: row by row they are looked through faster than one by one.
-fn rows_of<'a>(
-    levels: &'a [&Level],
-) -> impl Iterator<Item = impl Iterator<Item = Record> + 'a> + 'a {
-    levels
-        .iter()
-        .flat_map(|level| level.below.iter().map(|&low| level.row(low)))
 }

@@ -167,29 +167,3 @@ fn words(first: &str, rest: impl Iterator<Item = String>) -> Line {
     }
     line.into_bytes()
 }
-
-#[cfg(test)]
-mod tests {
-    use super::outcome;
-    use crate::commit::Short;
-    use crate::model::Answer;
-
-    /// No store of 4,096 records has such a swap: at most one of them would stay
-    /// as it is, so that 64 roots and one record above, with its two references,
-    /// name all records that cross, and each of these changes four more at most.
-    #[test]
-    fn the_line_of_a_log_that_is_short() {
-        let short = Short {
-            level: 0,
-            needed: 4,
-            held: 3,
-        };
-        let answer = Answer::OutOfLog {
-            swaps: 0,
-            left: 1,
-            short,
-        };
-        let line = "log short swaps 0 left 1 level 0 needed 4 held 3";
-        assert_eq!(outcome(answer), line);
-    }
-}

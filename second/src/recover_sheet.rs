@@ -83,20 +83,21 @@ fn pairs_in_turn() -> Case {
     )
 }
 
-/// Record 257 of 258, and levels 30 and 31: numbers of both bytes, and at the
+/// Record 8,191 of 8,192, and levels 62 and 63: numbers of both bytes, and at the
 /// end.
 fn last_of_all() -> Case {
-    let record = [0, 0, 1, 1, 1, 2, 3, 4, 5, 6, 7, 8, 0, 0, 0, 0];
-    let pair = [0, 1, 30, 0, 9, 10, 0, 0, 0, 0, 0, 0, 0, 0, 0, 0];
-    let order: Vec<u8> = (0..32).collect();
+    let record = [0, 0, 255, 31, 1, 2, 3, 4, 5, 6, 7, 8, 0, 0, 0, 0];
+    let pair = [0, 1, 62, 0, 9, 10, 0, 0, 0, 0, 0, 0, 0, 0, 0, 0];
+    let order: Vec<u8> = (0..64).collect();
     let mut order_after = order.clone();
-    order_after[30] = 9;
-    order_after[31] = 10;
-    let mut after = stored(257, &order_after, &[record, pair, with(CLEARED_4, 2, 2)]);
+    order_after[62] = 9;
+    order_after[63] = 10;
+    let log_after = [record, pair, with(CLEARED_4, 2, 2)];
+    let mut after = stored(8_191, &order_after, &log_after);
     after.table.extend([1, 2, 3, 4, 5, 6, 7, 8]);
     recovered(
         "the last record and the lowest pair",
-        stored(258, &order, &[record, pair, sealed(2)]),
+        stored(8_192, &order, &[record, pair, sealed(2)]),
         2,
         after,
     )
@@ -207,6 +208,16 @@ fn refused_entries() -> Vec<Case> {
             stored(3, &[0; 32], &[with(h, 2, 31), sealed(1)]),
             0,
         ),
+        refused_14(
+            "levels 63 and 64 of 64",
+            stored(3, &[0; 64], &[with(h, 2, 63), sealed(1)]),
+            0,
+        ),
+        refused_14(
+            "record 8,192 of 8,192",
+            stored(8_192, &[0, 1], &[with(e, 3, 32), sealed(1)]),
+            0,
+        ),
     ];
     for position in 12..16 {
         cases.push(third("a record's bytes 12 to 15", with(g, position, 1)));
@@ -284,13 +295,29 @@ fn refused_sizes() -> Vec<Case> {
         roots: vec![3; 131],
         ..a(&[e, f, g, h, CLEARED_4])
     };
+    let sealed_alone = |records, n| stored(records, &vec![0; n], &[sealed(0)]);
+    let cleared = |records, n| stored(records, &vec![0; n], &[ZEROS]);
     vec![
         row("n = 0", stored(3, &[], &log)),
-        row("n = 33", stored(3, &[0; 33], &log)),
+        row("n = 65", stored(3, &[0; 65], &log)),
         row("23 table bytes", part),
-        row("4,097 records", stored(4_097, &[0, 1], &log)),
+        row("8,193 records", stored(8_193, &[0, 1], &log)),
         row("n = 0, and no log", stored(3, &[], &[])),
-        row("n = 33, and a bad seal", stored(3, &[0; 33], &[ONES])),
+        row("n = 65, and a bad seal", stored(3, &[0; 65], &[ONES])),
+        recovered("n = 33", sealed_alone(3, 33), 0, cleared(3, 33)),
+        recovered("n = 64", sealed_alone(3, 64), 0, cleared(3, 64)),
+        recovered(
+            "4,097 records",
+            sealed_alone(4_097, 2),
+            0,
+            cleared(4_097, 2),
+        ),
+        recovered(
+            "8,192 records",
+            sealed_alone(8_192, 2),
+            0,
+            cleared(8_192, 2),
+        ),
         recovered("131 root bytes", odd_roots, 4, odd_roots_after),
     ]
 }

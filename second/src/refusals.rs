@@ -3,8 +3,8 @@
 use std::collections::HashSet;
 
 use crate::layout::{
-    Record, RecordNumber, Reference, Store, MOST_RECORDS, MOST_ROOTS, MOST_VARIABLES, RECORD_BYTES,
-    ROOT_BYTES,
+    Record, RecordNumber, Reference, Store, MOST_COUNTED, MOST_RECORDS, MOST_ROOTS, MOST_VARIABLES,
+    RECORD_BYTES, ROOT_BYTES,
 };
 use crate::log_refusals::{log_outside, still_sealed};
 use crate::plans;
@@ -22,6 +22,8 @@ pub struct Arguments<'a> {
     pub log: Option<&'a [u8]>,
     pub target: Option<&'a [u8]>,
     pub plan: Option<u32>,
+    /// Are combinations of the inputs counted?
+    pub counts: bool,
     pub position: Option<u32>,
     pub inputs: Option<&'a [u8]>,
     pub level: Option<u32>,
@@ -32,9 +34,9 @@ pub struct Arguments<'a> {
 type Check = fn(Store, Arguments) -> Option<usize>;
 
 /// In the order in which they are made: that of their numbers, but for those of
-/// the log, which come after 1, and for 13, which comes after 9 (docs/RULES.md,
-/// 2.2).
-const CHECKS: [(u32, Check); 15] = [
+/// the log, which come after 1, and for 13 and 16, which come after 9
+/// (docs/RULES.md, 2.2).
+const CHECKS: [(u32, Check); 16] = [
     (1, length_outside),
     (14, |store, arguments| log_outside(store, arguments.log?)),
     (15, |_, arguments| still_sealed(arguments.log?)),
@@ -47,6 +49,9 @@ const CHECKS: [(u32, Check); 15] = [
     (8, |store, _| root_astray(store)),
     (9, |store, _| idle_record(store)),
     (13, |_, arguments| no_such_plan(arguments.plan?)),
+    (16, |store, arguments| {
+        arguments.counts.then(|| too_many_to_count(store))?
+    }),
     (10, |store, arguments| {
         no_such_root(store, arguments.position?)
     }),
@@ -196,6 +201,11 @@ fn idle_record(store: Store) -> Option<usize> {
 /// 13: a number that no plan has; the number is the place.
 fn no_such_plan(number: u32) -> Option<usize> {
     plans::plan(number).is_none().then_some(number as usize)
+}
+
+/// 16: more inputs than a root's count is told for; n itself is the place.
+fn too_many_to_count(store: Store) -> Option<usize> {
+    (store.n() > MOST_COUNTED).then_some(store.n())
 }
 
 /// 10: there is no root at the position; it is the place.

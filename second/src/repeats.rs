@@ -2,7 +2,7 @@
 //! some of them alike, almost alike, or of one bucket of the library. All of
 //! them pass the checks before it.
 
-use crate::chains::{FEWEST_FOR_CHAINS, FEWEST_OF_A_CROWD};
+use crate::chains::{steps_of, FEWEST_FOR_CHAINS, FEWEST_OF_A_CROWD, MOST_STEPS};
 use crate::generate::{all_used, moved};
 use crate::input::Input;
 use crate::layout::{Record, RecordNumber, Reference, MOST_RECORDS, MOST_ROOTS};
@@ -61,7 +61,7 @@ impl Kind {
     /// Full tables take the library long: there are some dozens in all.
     fn full_once_in(&self) -> usize {
         if self.is_often_full() {
-            30
+            20
         } else {
             250
         }
@@ -104,7 +104,7 @@ const fn with_a_crowd(name: &'static str, seating: Seating) -> Kind {
 /// A kind whose tables take about as many steps as the chains are given.
 const fn near_the_limit(name: &'static str, pattern: Pattern) -> Kind {
     Kind {
-        beside: ten_or_so,
+        beside: some_steps,
         ..kind(name, Anywhere, OneBucket, pattern)
     }
 }
@@ -161,7 +161,7 @@ const KINDS: [Kind; 29] = [
         amid(crowd(random), random)
     }),
     kind("crowd, alike at the end", Anywhere, OneBucket, |random| {
-        at_the_end(crowd(random))
+        last_two(crowd(random))
     }),
     kind(
         "crowd, its first and last alike",
@@ -315,9 +315,9 @@ fn base(full: bool, added: usize, random: &mut Random) -> Input {
     let used = match random.below(100) {
         _ if full => room,
         0 => random.between(1_000, room),
-        _ if added > MANY_OF_A_BUCKET => random.between(450, 650),
+        _ if added > MANY_OF_A_BUCKET => random.between(600, 800),
         1..=15 => random.between(200, 700),
-        _ if added > FEW_OF_A_BUCKET => random.between(150, 300),
+        _ if added > FEW_OF_A_BUCKET => random.between(200, 350),
         16..=50 => about_as_chains_need(random) - added,
         51..=75 => random.below(14),
         _ => random.below(100),
@@ -396,12 +396,13 @@ fn some(random: &mut Random) -> Vec<usize> {
 
 /// Different ones: a crowd, mostly just so.
 fn crowd(random: &mut Random) -> Vec<usize> {
-    let most = match random.below(10) {
-        0 => 400,
-        1..=3 => 220,
-        _ => 140,
+    let more = match random.below(10) {
+        0 => random.below(200),
+        1..=3 => random.below(90),
+        4..=6 => 0,
+        _ => random.below(12),
     };
-    different_ones(random.between(FEWEST_OF_A_CROWD, most))
+    different_ones(FEWEST_OF_A_CROWD + more)
 }
 
 fn in_front(mut chain: Vec<usize>) -> Vec<usize> {
@@ -412,6 +413,12 @@ fn in_front(mut chain: Vec<usize>) -> Vec<usize> {
 fn at_the_end(mut chain: Vec<usize>) -> Vec<usize> {
     chain.extend(chain.last().copied());
     chain
+}
+
+/// No more of them than there were.
+fn last_two(mut chain: Vec<usize>) -> Vec<usize> {
+    chain.pop();
+    at_the_end(chain)
 }
 
 fn around(mut chain: Vec<usize>) -> Vec<usize> {
@@ -464,8 +471,11 @@ fn a_crowd(pattern: &[usize], random: &mut Random) -> Vec<usize> {
 
 /// With those few steps by chance that hundreds of records take, they make up
 /// for the one that a crowd lacks.
-fn ten_or_so(_: &[usize], random: &mut Random) -> Vec<usize> {
-    different_ones(random.between(10, 11))
+fn some_steps(_: &[usize], random: &mut Random) -> Vec<usize> {
+    let missing = MOST_STEPS - steps_of(FEWEST_OF_A_CROWD - 1);
+    let by_chance = random.between(5, 25);
+    let enough = (2..).take_while(|&count| steps_of(count) + by_chance <= missing);
+    different_ones(enough.last().unwrap_or(2))
 }
 
 #[cfg(test)]

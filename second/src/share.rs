@@ -5,7 +5,7 @@ const DIGITS: u32 = 52;
 const EXPONENT_OF_ONE: u64 = 1_023;
 
 /// The bits of count / 2^n, written by hand: a double holds 53 binary digits
-/// of a number, and a count has 33 at most, so that nothing is rounded.
+/// of a number, and no count up to 2^52 has more, so that nothing is rounded.
 pub fn share_bits(count: u64, n: usize) -> u64 {
     assert!(count <= 1 << n, "a count is one of 2^n combinations");
     let Some(highest) = count.checked_ilog2() else {
@@ -19,6 +19,7 @@ pub fn share_bits(count: u64, n: usize) -> u64 {
 #[cfg(test)]
 mod tests {
     use super::share_bits;
+    use crate::layout::MOST_COUNTED;
     use crate::random::Random;
 
     #[test]
@@ -30,12 +31,15 @@ mod tests {
         assert_eq!(share_bits(1, 32), 0x3DF0_0000_0000_0000);
         assert_eq!(share_bits((1 << 32) - 1, 32), 0x3FEF_FFFF_FFE0_0000);
         assert_eq!(share_bits(1 << 32, 32), 0x3FF0_0000_0000_0000);
+        assert_eq!(share_bits(1, 52), 0x3CB0_0000_0000_0000);
+        assert_eq!(share_bits((1 << 52) - 1, 52), 0x3FEF_FFFF_FFFF_FFFE);
+        assert_eq!(share_bits(1 << 52, 52), 0x3FF0_0000_0000_0000);
     }
 
     #[test]
     fn the_quotient() {
         let random = &mut Random::from_seed(0);
-        for n in 1..=32 {
+        for n in 1..=MOST_COUNTED as i32 {
             let all = 1_u64 << n;
             let ends = (0..all.min(2_000)).chain(all - all.min(2_000)..=all);
             let middle: Vec<u64> = (0..2_000)

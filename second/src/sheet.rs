@@ -422,30 +422,33 @@ fn case_h() -> Vec<Case> {
 /// Bring Up and Lowest Inversion exchange the two lowest levels last, the
 /// others the two highest.
 fn case_i() -> Vec<Case> {
-    let starting_33: Vec<u8> = (0..33).collect();
-    let reversed_33: Vec<u8> = (0..33).rev().collect();
+    let starting_65: Vec<u8> = (0..65).collect();
+    let reversed_65: Vec<u8> = (0..65).rev().collect();
     let over = run(
-        "I, n = 33",
-        alone(&starting_33),
-        (&reversed_33, LARGEST),
+        "I, n = 65",
+        alone(&starting_65),
+        (&reversed_65, LARGEST),
         refused(1, 0),
-        alone(&starting_33),
+        alone(&starting_65),
     );
     [
-        reversed_by(0, "I, Bring Up", 30),
-        reversed_by(1, "I, Sink Down", 0),
-        reversed_by(2, "I, Lowest", 30),
-        reversed_by(3, "I, Highest", 0),
+        reversed_by(0, "I, Bring Up", 64, 62),
+        reversed_by(1, "I, Sink Down", 64, 0),
+        reversed_by(2, "I, Lowest", 64, 62),
+        reversed_by(3, "I, Highest", 64, 0),
+        reversed_by(0, "n = 33, Bring Up", 33, 31),
+        reversed_by(1, "n = 33, Sink Down", 33, 0),
         by_every_plan(over),
     ]
     .concat()
 }
 
-/// 32 variables; one swap before the end the pair at this upper level is still
-/// to be exchanged.
-fn reversed_by(plan: u32, name: &'static str, last: usize) -> Vec<Case> {
-    let starting: Vec<u8> = (0..32).collect();
-    let reversed: Vec<u8> = (0..32).rev().collect();
+/// All pairs of n variables are exchanged: with 64 these are 2,016, with 33 they
+/// are 528. One swap before the end the pair at this upper level is still to be.
+fn reversed_by(plan: u32, name: &'static str, n: u8, last: usize) -> Vec<Case> {
+    let starting: Vec<u8> = (0..n).collect();
+    let reversed: Vec<u8> = (0..n).rev().collect();
+    let pairs = if n == 64 { 2_016 } else { 528 };
     let mut nearly = reversed.clone();
     nearly.swap(last, last + 1);
     let run = |budget, answer, after: &[u8]| {
@@ -453,9 +456,9 @@ fn reversed_by(plan: u32, name: &'static str, last: usize) -> Vec<Case> {
         run_by(plan, name, alone(&starting), job, answer, alone(after))
     };
     vec![
-        run(LARGEST, done(496), &reversed),
-        run(496, done(496), &reversed),
-        run(495, paused(495, 1), &nearly),
+        run(LARGEST, done(pairs), &reversed),
+        run(pairs, done(pairs), &reversed),
+        run(pairs - 1, paused(pairs - 1, 1), &nearly),
     ]
 }
 
@@ -531,11 +534,11 @@ fn case_j() -> Vec<Case> {
     ]
 }
 
-/// A full table of which record 4,095 alone is used, named by so many roots.
+/// A full table of which record 8,191 alone is used, named by so many roots.
 fn last_used(roots: usize) -> Input {
-    let mut records = vec![FREE; 4_096];
-    records[4_095] = used(0, 0, 1);
-    input(&records, &vec![4_097; roots], &[0])
+    let mut records = vec![FREE; 8_192];
+    records[8_191] = used(0, 0, 1);
+    input(&records, &vec![8_193; roots], &[0])
 }
 
 /// Each of the six asked with the longest table and with one record more,
@@ -544,36 +547,38 @@ fn case_k() -> Vec<Case> {
     let records = |count: usize, order: &[u8]| input(&vec![FREE; count], &[1], order);
     let roots = |count: usize, order: &[u8]| input(&[], &vec![1; count], order);
     let (before, after) = (&[0, 1], &[1, 0]);
-    let over = || records(4_097, before);
+    let over = || records(8_193, before);
+    let longer = || records(4_097, before);
     let many = || roots(65, before);
     let no = refused(1, 0);
     let (one, made, all_of_4) = (Answer::Value(1), Answer::Made, counted(4, 1.0));
-    let there = || records(4_096, after);
+    let there = || records(8_192, after);
+    let longer_after = || records(4_097, after);
     vec![
-        check("K, 32,768 bytes", records(4_096, before), accepted(0)),
-        check("K, 32,776 bytes", over(), no),
+        check("K, 65,536 bytes", records(8_192, before), accepted(0)),
+        check("K, 65,544 bytes", over(), no),
         check("K, 64 roots", roots(64, before), accepted(0)),
         check("K, 65 roots", many(), no),
-        read("K, 32,768 bytes", records(4_096, before), 0, &[0, 0], one),
-        read("K, 32,776 bytes", over(), 0, &[0, 0], no),
+        read("K, 65,536 bytes", records(8_192, before), 0, &[0, 0], one),
+        read("K, 65,544 bytes", over(), 0, &[0, 0], no),
         read("K, 64 roots", roots(64, before), 63, &[0, 0], one),
         read("K, 65 roots", many(), 63, &[0, 0], no),
-        show("K, 32,768 bytes", last_used(1), 0, [32_760, 8]),
-        show("K, 32,776 bytes", over(), 0, EMPTY),
-        show("K, 64 roots", last_used(64), 63, [32_760, 8]),
+        show("K, 65,536 bytes", last_used(1), 0, [65_528, 8]),
+        show("K, 65,544 bytes", over(), 0, EMPTY),
+        show("K, 64 roots", last_used(64), 63, [65_528, 8]),
         show("K, 65 roots", last_used(65), 64, EMPTY),
-        swap("K, 32,768 bytes", records(4_096, before), 0, made, there()),
-        swap("K, 32,776 bytes", over(), 0, no, over()),
+        swap("K, 65,536 bytes", records(8_192, before), 0, made, there()),
+        swap("K, 65,544 bytes", over(), 0, no, over()),
         swap("K, 64 roots", roots(64, before), 0, made, roots(64, after)),
         swap("K, 65 roots", many(), 0, no, many()),
         run(
-            "K, 32,768 bytes",
-            records(4_096, before),
+            "K, 65,536 bytes",
+            records(8_192, before),
             (after, 1),
             done(1),
             there(),
         ),
-        run("K, 32,776 bytes", over(), (after, 1), no, over()),
+        run("K, 65,544 bytes", over(), (after, 1), no, over()),
         run(
             "K, 64 roots",
             roots(64, before),
@@ -582,11 +587,23 @@ fn case_k() -> Vec<Case> {
             roots(64, after),
         ),
         run("K, 65 roots", many(), (after, 1), no, many()),
-        count("K, 32,768 bytes", records(4_096, before), 0, all_of_4),
-        count("K, 32,776 bytes", over(), 0, no),
+        count("K, 65,536 bytes", records(8_192, before), 0, all_of_4),
+        count("K, 65,544 bytes", over(), 0, no),
         count("K, 64 roots", roots(64, before), 63, all_of_4),
         count("K, 65 roots", many(), 63, no),
         count("K, the last record", last_used(64), 63, counted(1, 0.5)),
+        // What was too long once is no longer.
+        check("K, 32,776 bytes", longer(), accepted(0)),
+        read("K, 32,776 bytes", longer(), 0, &[0, 0], one),
+        swap("K, 32,776 bytes", longer(), 0, made, longer_after()),
+        run(
+            "K, 32,776 bytes",
+            longer(),
+            (after, 1),
+            done(1),
+            longer_after(),
+        ),
+        count("K, 32,776 bytes", longer(), 0, all_of_4),
     ]
 }
 

@@ -2,6 +2,14 @@
 
 use std::fmt;
 
+/// A number as a line has it: with a comma before every three digits.
+pub fn written(number: usize) -> String {
+    match number {
+        0..1_000 => number.to_string(),
+        _ => format!("{},{:03}", written(number / 1_000), number % 1_000),
+    }
+}
+
 pub struct Tally {
     title: String,
     calls: usize,

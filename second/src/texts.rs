@@ -1,10 +1,11 @@
 //! Files of the program made by hand, with the whole text that it prints for
 //! them. Neither is taken from the model.
 
-use crate::by_hand::{chain, chain_of, used, A_0, A_1, FREE};
+use crate::by_hand::{chain, chain_of, input, used, A_0, A_1, FREE};
 use crate::input::Input;
 use crate::label_texts;
 use crate::printed::{Files, PLAN};
+use crate::wide_sheet::{rising, swapped, wide, wide_after};
 
 pub fn cases() -> Vec<(Files, Vec<u8>)> {
     let without_labels = [
@@ -13,6 +14,7 @@ pub fn cases() -> Vec<(Files, Vec<u8>)> {
         refused().into_iter().flat_map(whatever_the_plan).collect(),
         bad_plans(),
         at_the_limits(),
+        wide_swaps(),
     ]
     .concat();
     let in_bytes = |(files, text): (Files, String)| (files, text.into_bytes());
@@ -191,51 +193,86 @@ fn bad_plans() -> Vec<(Files, String)> {
 /// Each file as long as it may be, and then with something more, without
 /// which it would be right.
 fn at_the_limits() -> Vec<(Files, String)> {
-    let table = FREE.repeat(4_096);
-    let roots = [1, 0].repeat(64);
-    let order: Vec<u8> = (0..32).collect();
+    let store = input(&[FREE; 8_192], &[1; 64], &rising());
+    let Input {
+        table,
+        roots,
+        order,
+        ..
+    } = &store;
     let with = |bytes: &[u8], more: &[u8]| [bytes, more].concat();
+    let whole = format!("plan 0\ndone swaps 0 left 0\n{}", listed(&store, |_| None));
+    // What was too long once is no longer.
+    let longer = input(&[FREE; 4_097], &[], &(0..33).collect::<Vec<u8>>());
+    let longer_text = format!("plan 0\ndone swaps 0 left 0\n{}", listed(&longer, |_| None));
+    let (of_4_097, of_33) = (&longer.table, &longer.order);
 
-    let mut whole = String::from("plan 0\ndone swaps 0 left 0\norder");
-    for variable in 0..32 {
-        whole += &format!(" {variable}");
-    }
-    whole += "\n";
-    for number in 0..4_096 {
-        whole += &format!("{number} free\n");
-    }
-    whole += "roots";
-    whole += &" 1".repeat(64);
-    whole += "\n";
+    let refused = [
+        files(&with(table, &FREE), roots, order, order),
+        files(&with(table, &[255]), roots, order, order),
+        files(table, &with(roots, &[1, 0]), order, order),
+        files(table, roots, &with(order, &[0]), order),
+        files(table, roots, order, &with(order, &[0])),
+        files(table, roots, &with(order, &[64]), &with(order, &[64])),
+    ];
+    let whole = [
+        (files(table, roots, order, order), whole),
+        (files(of_4_097, &[], of_33, of_33), longer_text),
+    ];
+    let refused = refused.map(|files| (files, "refused 1 place 0\n".to_string()));
+    whole.into_iter().chain(refused).collect()
+}
 
-    let refused = "refused 1 place 0\n".to_string();
+/// Swaps of thousands of records: the program's log holds 4,095 entries.
+fn wide_swaps() -> Vec<(Files, String)> {
+    let row = |store: &Input, target: &[u8], plan: u8, answer: &str, after: &Input| {
+        let files = files(&store.table, &store.roots, &store.order, target);
+        let text = format!("plan {plan}\n{answer}\n{}", listed(after, |_| None));
+        (with_plan(&files, &[plan]), text)
+    };
+    let target = swapped();
+    let (enough, short, full) = (wide(2_047, 0), wide(2_047, 1), wide(2_733, 1));
+    // Levels 62 and 63 too, which Lowest Inversion exchanges first.
+    let mut further = target.clone();
+    further.swap(62, 63);
+    let mut on_the_way = full.clone();
+    on_the_way.order.swap(62, 63);
+    let short_by_one = "log short swaps 0 left 1 level 6 needed 4096 held 4095";
+    let short_at_once = "log short swaps 0 left 2 level 6 needed 5468 held 4095";
+    let short_later = "log short swaps 1 left 1 level 6 needed 5468 held 4095";
+    let after = wide_after(2_047, 0);
     vec![
-        (files(&table, &roots, &order, &order), whole),
-        (
-            files(&with(&table, &FREE), &roots, &order, &order),
-            refused.clone(),
-        ),
-        (
-            files(&with(&table, &[255]), &roots, &order, &order),
-            refused.clone(),
-        ),
-        (
-            files(&table, &with(&roots, &[1, 0]), &order, &order),
-            refused.clone(),
-        ),
-        (
-            files(&table, &roots, &with(&order, &[0]), &order),
-            refused.clone(),
-        ),
-        (
-            files(&table, &roots, &order, &with(&order, &[0])),
-            refused.clone(),
-        ),
-        (
-            files(&table, &roots, &with(&order, &[32]), &with(&order, &[32])),
-            refused,
-        ),
+        row(&enough, &target, 0, "done swaps 1 left 0", &after),
+        row(&short, &target, 0, short_by_one, &short),
+        row(&full, &further, 0, short_at_once, &full),
+        row(&full, &further, 2, short_later, &on_the_way),
     ]
+}
+
+/// What is listed of a store whose variables have these labels.
+pub fn listed(store: &Input, label: impl Fn(u8) -> Option<String>) -> String {
+    let mut text = String::from("order");
+    for variable in &store.order {
+        text += &format!(" {variable}");
+    }
+    text += "\n";
+    for (number, record) in store.table.chunks(8).enumerate() {
+        let variable = record[0];
+        if variable == 255 {
+            text += &format!("{number} free\n");
+            continue;
+        }
+        let [low, high] = [2, 4].map(|at| u16::from_le_bytes([record[at], record[at + 1]]));
+        text += &format!("{number} {variable} {low} {high}\n");
+        if let Some(label) = label(variable) {
+            text += &format!("{label}\n");
+        }
+    }
+    text += "roots";
+    for root in store.roots.chunks(2) {
+        text += &format!(" {}", u16::from_le_bytes([root[0], root[1]]));
+    }
+    text + "\n"
 }
 
 #[cfg(test)]

@@ -3,7 +3,9 @@
 
 use crate::generate::random_order;
 use crate::input::Input;
-use crate::layout::{Record, RecordNumber, Reference, RECORD_BYTES, ROOT_BYTES};
+use crate::layout::{
+    Record, RecordNumber, Reference, MOST_RECORDS, MOST_VARIABLES, RECORD_BYTES, ROOT_BYTES,
+};
 use crate::random::Random;
 
 pub struct Wild {
@@ -32,9 +34,9 @@ pub const WILD: [Wild; 4] = [
 
 fn bytes(random: &mut Random) -> Input {
     Input {
-        table: random_bytes(100, 40_000, random),
+        table: random_bytes(100, MOST_RECORDS * RECORD_BYTES + 4_000, random),
         roots: random_bytes(20, 200, random),
-        order: random_bytes(8, 70, random),
+        order: random_bytes(8, MOST_VARIABLES + 6, random),
         ..Input::default()
     }
 }

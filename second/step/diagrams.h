@@ -202,12 +202,11 @@ static void put_reference(uint8_t *bytes, size_t number, const size_t *places)
     bytes[1] = (uint8_t)(number >> 8);
 }
 
-/* The records that were built at places that look random, and so many free ones
- * among them. */
-static void place(struct store *store, size_t spare)
+/* The records that were built at places that look random among so many. */
+static void place(struct store *store, size_t count)
 {
     static size_t places[RELAY_MOST_RECORDS];
-    size_t count = built_count + spare, number, root;
+    size_t number, root;
 
     for (number = 0; number < count; number++) {
         size_t other = any() % (number + 1);
@@ -235,18 +234,32 @@ static void place(struct store *store, size_t spare)
     lend_log(store, enough(store));
 }
 
-static void prepare(struct store *store, const struct recipe *recipe,
-                    size_t spare)
+static void build_all(struct store *store, const struct recipe *recipe)
 {
     size_t root;
 
     built_count = 0;
-    store->levels = recipe->levels;
     store->roots_length = 0;
     for (root = 0; root < MOST_FUNCTIONS && recipe->roots[root]; root++) {
         size_t made = build(recipe, recipe->roots[root], 0, 0);
         store->roots[store->roots_length++] = (uint8_t)made;
         store->roots[store->roots_length++] = (uint8_t)(made >> 8);
     }
-    place(store, spare);
+}
+
+/* With so many free records. */
+static void prepare(struct store *store, const struct recipe *recipe,
+                    size_t spare)
+{
+    build_all(store, recipe);
+    store->levels = recipe->levels;
+    place(store, built_count + spare);
+}
+
+/* As many records and levels as there may be; those below have no record. */
+static void prepare_largest(struct store *store, const struct recipe *recipe)
+{
+    build_all(store, recipe);
+    store->levels = RELAY_MOST_VARIABLES;
+    place(store, RELAY_MOST_RECORDS);
 }

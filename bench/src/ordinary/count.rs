@@ -5,6 +5,7 @@ use std::collections::HashMap;
 
 use super::{judge, levels, references, Answer, Record};
 use crate::generate::Buffers;
+use crate::limits::{COUNTED, RECORD_SIZE};
 
 /// How many combinations of the inputs make a root 1, and their share of all.
 #[derive(Clone, Copy, Debug, Default)]
@@ -15,13 +16,21 @@ pub struct Counted {
 
 pub fn count(buffers: &Buffers, position: usize) -> Result<Counted, Answer> {
     judge(buffers, None)?;
+    let n = buffers.order.len();
+    if n > COUNTED {
+        return Err(Answer::Refused {
+            number: 16,
+            place: n,
+        });
+    }
     count_accepted(buffers, position).ok_or(Answer::Refused {
         number: 10,
         place: position,
     })
 }
 
-/// The count alone, in an accepted table; none where there is no such root.
+/// The count alone, in an accepted table of no more variables than are counted
+/// by; none where there is no such root.
 pub fn count_accepted(buffers: &Buffers, position: usize) -> Option<Counted> {
     let root = references(&buffers.roots).nth(position)?;
     let mut counts = Counts {
@@ -51,7 +60,8 @@ impl Counts<'_> {
         if reference < 2 {
             return u64::from(reference) << (self.level.len() - level);
         }
-        let record = Record::load(&self.table[(reference as usize - 2) * 8..][..8]);
+        let offset = (reference as usize - 2) * RECORD_SIZE;
+        let record = Record::load(&self.table[offset..][..RECORD_SIZE]);
         let own = self.level[record.variable as usize];
         let count = match self.known.get(&reference) {
             Some(&count) => count,

@@ -3,27 +3,25 @@
 
 use std::collections::HashSet;
 
-use super::{Answer, VARIABLES};
+use super::Answer;
 use crate::generate::Buffers;
+use crate::limits::{LOG_RECORDS, LOG_RECORD_SIZE, RECORDS, RECORD_SIZE, SEALED, VARIABLES};
 
-const ENTRY: usize = 16;
-const ENTRIES: usize = 4_096;
-const SEALED: u8 = 0xA5;
 const RECORD: u8 = 0;
 const PAIR: u8 = 1;
 
 /// How many entries the log holds besides its seal.
 pub fn held(log: &[u8]) -> usize {
-    log.len() / ENTRY - 1
+    log.len() / LOG_RECORD_SIZE - 1
 }
 
 /// Logs the old bytes of these records, in rising number, and of the pair of
 /// levels; then seals.
 pub fn seal(buffers: &mut Buffers, changed: &[u16], level: usize) {
     let (entries, seal) = split(&mut buffers.log);
-    let mut entries = entries.chunks_exact_mut(ENTRY);
+    let mut entries = entries.chunks_exact_mut(LOG_RECORD_SIZE);
     for (&number, entry) in changed.iter().zip(&mut entries) {
-        let old = &buffers.table[number as usize * 8..][..8];
+        let old = &buffers.table[number as usize * RECORD_SIZE..][..RECORD_SIZE];
         write(entry, RECORD, number, old);
     }
     let entry = entries.next().expect("the log is long enough");
@@ -40,7 +38,8 @@ pub fn clear(log: &mut [u8]) {
 /// Puts the old bytes back where the log is sealed.
 pub fn recover(buffers: &mut Buffers) -> Answer {
     let (n, length) = (buffers.order.len(), buffers.table.len());
-    if !(1..=VARIABLES).contains(&n) || length % 8 != 0 || length > super::RECORDS * 8 {
+    if !(1..=VARIABLES).contains(&n) || length % RECORD_SIZE != 0 || length > RECORDS * RECORD_SIZE
+    {
         return Answer::Refused {
             number: 1,
             place: 0,
@@ -50,10 +49,10 @@ pub fn recover(buffers: &mut Buffers) -> Answer {
         Ok(count) => count.unwrap_or(0),
         Err(refused) => return refused,
     };
-    for entry in buffers.log.chunks_exact(ENTRY).take(count) {
+    for entry in buffers.log.chunks_exact(LOG_RECORD_SIZE).take(count) {
         let number = number_of(entry) as usize;
         if entry[1] == RECORD {
-            buffers.table[number * 8..][..8].copy_from_slice(&entry[4..12]);
+            buffers.table[number * RECORD_SIZE..][..RECORD_SIZE].copy_from_slice(&entry[4..12]);
         } else {
             buffers.order[number..][..2].copy_from_slice(&entry[4..6]);
         }
@@ -67,10 +66,13 @@ pub fn recover(buffers: &mut Buffers) -> Answer {
 pub fn judge(buffers: &Buffers) -> Result<Option<usize>, Answer> {
     let log = &buffers.log;
     let refused = |place: usize| Err(Answer::Refused { number: 14, place });
-    if log.is_empty() || log.len() % ENTRY != 0 || log.len() > ENTRIES * ENTRY {
+    if log.is_empty()
+        || log.len() % LOG_RECORD_SIZE != 0
+        || log.len() > LOG_RECORDS * LOG_RECORD_SIZE
+    {
         return refused(0);
     }
-    let seal = &log[log.len() - ENTRY..];
+    let seal = &log[log.len() - LOG_RECORD_SIZE..];
     let count = number_of(seal) as usize;
     match seal[0] {
         0 => return Ok(None),
@@ -78,10 +80,10 @@ pub fn judge(buffers: &Buffers) -> Result<Option<usize>, Answer> {
         _ => return refused(held(log)),
     }
     let mut seen = HashSet::with_capacity(count);
-    for (place, entry) in log.chunks_exact(ENTRY).take(count).enumerate() {
+    for (place, entry) in log.chunks_exact(LOG_RECORD_SIZE).take(count).enumerate() {
         let number = number_of(entry);
         let fits = match entry[1] {
-            RECORD => (number as usize) < buffers.table.len() / 8,
+            RECORD => (number as usize) < buffers.records(),
             PAIR => number as usize + 1 < buffers.order.len() && entry[6..12] == [0; 6],
             _ => false,
         };
@@ -93,7 +95,7 @@ pub fn judge(buffers: &Buffers) -> Result<Option<usize>, Answer> {
 }
 
 fn split(log: &mut [u8]) -> (&mut [u8], &mut [u8]) {
-    log.split_at_mut(log.len() - ENTRY)
+    log.split_at_mut(log.len() - LOG_RECORD_SIZE)
 }
 
 fn number_of(entry: &[u8]) -> u16 {

@@ -8,8 +8,7 @@ ghost use Rattle.chains.specs.Chains.{Added};
 ghost use Rattle.chains.specs.Mixed.{buckets, mixed};
 use diagrams::MOST_RECORDS;
 
-// Two for each record, so that a chain has half an entry on average in a full table. Heads and links of all records take 24,578 bytes for 4,096 records,
-// and 49,154 for 8,192.
+// Two for each record, so that a chain has half an entry on average in a full table. Heads and links of all records take 49,154 bytes.
 pub const BUCKETS: usize = 2 * MOST_RECORDS;
 
 // No entry in any bucket. The last bucket, which `mix` never gives, is for entries that nobody looks up.

@@ -1,4 +1,4 @@
--- Check 1: there are 1 to 32 variables, whole records and at most 4,096 of them, whole roots and at most 64 of them.
+-- Check 1: there are 1 variable or more and no more than an order may have, whole records and whole roots, and no more than a relay stores.
 -- docs/RULES.md, 2.2.
 use Prim.Native.Nat.{ℕ, _*_, _%_, _≤_, _<_}
 use mathlib.Core.Bool.{Bool, false, not, _||_}

@@ -11,7 +11,7 @@ use diagrams::MOST_RECORDS;
 use diagrams::RecordNumber;
 use diagrams::wide16;
 
-// Two slots for each record. With a class for each record they take 24,576 bytes for 4,096 records, and 49,152 for 8,192.
+// Two slots for each record. With a class for each record they take 49,152 bytes.
 const SLOTS: usize = 2 * MOST_RECORDS;
 
 // A key has 40 bits: the first pass goes by the 13 that lead, for which there are slots, each of the others by one of these.

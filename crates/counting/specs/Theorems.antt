@@ -5,7 +5,7 @@ use mathlib.Core.List.{List, [], _∷_}
 use mathlib.Core.Path.{_≡_, refl, ap, sym, _∙_}
 use native.Mathlib.Nat.{not-le-of-lt}
 use native.Mathlib.Omega.{arith}
-use borrow.Author.Tests.{leb-false}
+use borrow.Author.Tests.{leb-false, le-ltb, ltb-false}
 use lib.Dec.{eqb}
 use lib.Ieee.{Float}
 use lib.Ieee.Exact.{HasValue}
@@ -29,14 +29,15 @@ use Rattle.reading.specs.Read.{noRoot, readOf, rootValue}
 use Rattle.reading.specs.Theorems.{no-root-says, GoodInputs, value-reads, reads-if, reads-only, computed}
 use Rattle.reading.specs.declared.ReadAnswer.{ReadAnswer}
 use Rattle.reading.specs.declared.ReadAnswer.the-variants as reading
-use Rattle.counting.specs.Count.{countStages, trips, countAfter, countOf, CountOutcome}
+use Rattle.counting.specs.Count.{tooManyInputs, countStages, trips, countAfter, countOf, CountOutcome}
 use Rattle.counting.specs.declared.CountAnswer.{CountAnswer}
 use Rattle.counting.specs.declared.CountAnswer.the-variants as counting
 
--- ---- Count tells a number exactly for a table that the relay can use and a root that is there
+-- ---- Count tells a number exactly for a table that the relay can use, of no more inputs than are counted, and a root that is there
 
 pub record Counts (t r o : List ℕ) (position c : ℕ) (s : Float) : Type 0 where
   pub usable : Usable t r o
+  pub few-inputs : length o ≤ mostCounted
   pub there : position < rootCount r
   -- how many combinations
   pub count : c ≡ trips t r o position
@@ -50,16 +51,17 @@ answersOne (reading.Refused w) = false
 
 module _ (t r o : List ℕ) (position : ℕ) where
   -- after Check's checks
-  abbrev ownStage : List Stage
-  ownStage = stageAt 10 position (noRoot r position) ∷ []
+  abbrev ownStages : List Stage
+  ownStages = stageAt 16 (length o) (tooManyInputs o) ∷ stageAt 10 position (noRoot r position) ∷ []
 
   pub counts-if : {c : ℕ} {s : Float} → Counts t r o position c s → countOf t r o position ≡ counting.Counted c s
   unfolding countOf countStages
   counts-if w =
       let no-root = denies (no-root-says r position) (not-le-of-lt (w .there)) in
-      let own = clear-if ownStage (also (only-passed position no-root) none) in
+      let few = le-ltb mostCounted (length o) (w .few-inputs) in
+      let own = clear-if ownStages (also (only-passed (length o) few) (also (only-passed position no-root) none)) in
       let clear : verdict.Clear ≡ verdictOf (countStages t r o position) =
-      row-passes (checkStages t r o) ownStage (sym (usable-clear t r o (w .usable))) refl (sym own) in
+      row-passes (checkStages t r o) ownStages (sym (usable-clear t r o (w .usable))) refl (sym own) in
       rw (← clear, w .share, w .count)
 
   told : (v : Verdict) {c : ℕ} {s : Float} → countAfter t r o position v ≡ counting.Counted c s
@@ -67,35 +69,36 @@ module _ (t r o : List ℕ) (position : ℕ) where
   told verdict.Clear e = (refl, cc, cc)
   told (verdict.Refused w) e = apart (cc)
 
-  clear-counts : verdictOf (countStages t r o position) ≡ verdict.Clear → Usable t r o × (position < rootCount r)
+  clear-counts : verdictOf (countStages t r o position) ≡ verdict.Clear → Usable t r o × (length o ≤ mostCounted) × (position < rootCount r)
   unfolding countStages
-  clear-counts e = go (both-rows (checkStages t r o) ownStage (clear-only _ e))
+  clear-counts e = go (both-rows (checkStages t r o) ownStages (clear-only _ e))
     where
-      go : AllPass (checkStages t r o) × AllPass ownStage → Usable t r o × (position < rootCount r)
-      go (checks, also root none) = (usable-if t r o (passes-all t r o checks), leb-false (rootCount r) position (passed-only position root))
+      go : AllPass (checkStages t r o) × AllPass ownStages → Usable t r o × (length o ≤ mostCounted) × (position < rootCount r)
+      go (checks, also few (also root none)) = (
+        usable-if t r o (passes-all t r o checks),
+        ltb-false mostCounted (length o) (passed-only (length o) few),
+        leb-false (rootCount r) position (passed-only position root),
+      )
 
   pub counts-only : {c : ℕ} {s : Float} → countOf t r o position ≡ counting.Counted c s → Counts t r o position c s
   unfolding countOf
   counts-only e =
       let (clear, p, q) = told _ e in
-      let (u, b) = clear-counts clear in
-      record { usable = u; there = b; count = p; share = q ∙ ap (λ k. share k (length o)) (sym p) }
+      let (u, f, b) = clear-counts clear in
+      record { usable = u; few-inputs = f; there = b; count = p; share = q ∙ ap (λ k. share k (length o)) (sym p) }
 
   module _ {c : ℕ} {s : Float} (w : Counts t r o position c s) where
-    few : length o ≤ mostCounted
-    few = omega (arith, w .usable .sizes .few-variables)
-
     small : c < 2 ^ 53
     unfolding trips
-    small = count-small c (length o) few (rw (w .count) (many-most (length o) (rootValue t r o position)))
+    small = count-small c (length o) (w .few-inputs) (rw (w .count) (many-most (length o) (rootValue t r o position)))
 
     -- the share has exactly the value c / 2 ^ n: nothing is rounded
     pub share-is-exact : HasValue s false c (2 ^ length o)
-    share-is-exact = rw (w .share) (share-exact c (length o) small (omega (arith, few)))
+    share-is-exact = rw (w .share) (share-exact c (length o) small (omega (arith, w .few-inputs)))
 
     -- and it is what dividing the two as doubles gives
     pub share-is-quotient : s ≡ quotient c (length o)
-    share-is-quotient = w .share ∙ share-quotient c (length o) (omega (arith, small)) (omega (arith, few))
+    share-is-quotient = w .share ∙ share-quotient c (length o) (omega (arith, small)) (omega (arith, w .few-inputs))
 
     -- c is the number of combinations under which Read answers 1
     pub counts-reads : c ≡ howMany (length o) (λ inputs. answersOne (readOf t r o position inputs))
@@ -137,7 +140,8 @@ module _ (t r o : List ℕ) (position : ℕ) where
   pub count-place-small : (m k x : ℕ) → mostRecords ≤ m → position < m → countOf t r o position ≡ counting.Refused (refusal k x) → x < m
   unfolding countOf countStages Bounded
   count-place-small m k x g l e =
-      refusal-small t r o ownStage m k x g (omega arith, omega arith, tt) (refused _ (refusal k x) e) .1
+      refusal-small t r o ownStages m k x g (λ s. (omega arith, omega (arith, s .few-variables), (omega arith, omega arith, tt)))
+      (refused _ (refusal k x) e) .1
 
   -- one outcome for each input
   pub count-one : {a b : CountAnswer} → CountOutcome t r o position a → CountOutcome t r o position b → a ≡ b

@@ -2,6 +2,7 @@
 ghost use Rattle.counting.specs.Count.{CountOutcome};
 use checks::Refusal;
 use checks::Verdict;
+use count_shares::MOST_COUNTED;
 
 // What Count answers: how many combinations and their share of all, or a refusal.
 pub enum CountAnswer {
@@ -15,6 +16,13 @@ pub fn count(table: &[u8], roots: &[u8], order: &[u8], position: usize) -> Count
     let verdict = checks::verdict_of_all(table, roots, order);
     if let Verdict::Refused(refusal) = verdict {
         return CountAnswer::Refused(refusal);
+    }
+    let n = order.len();
+    if MOST_COUNTED < n {
+        return CountAnswer::Refused(Refusal {
+            number: 16,
+            place: n,
+        });
     }
     if diagrams::count_roots(roots) <= position {
         return CountAnswer::Refused(Refusal {

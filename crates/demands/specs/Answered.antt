@@ -10,7 +10,6 @@ use Prim.Native.Nat.{ℕ, _+_, _≤_, _<_}
 use mathlib.Core.Bool.{Bool}
 use mathlib.Core.List.{List, []}
 use mathlib.Core.Path.{_≡_, refl, ap, sym, _∙_}
-use lib.ListN.{length}
 use Rattle.lists.specs.Apart.{apart}
 use Rattle.lists.specs.Count.{bit}
 use Rattle.diagrams.specs.Layout.{recordSize, records}
@@ -18,7 +17,6 @@ use Rattle.plans.specs.Inversions.{left}
 use Rattle.plans.specs.Numbered.{planOf}
 use Rattle.checks.specs.Stages.{refusal, FailsFirst}
 use Rattle.checks.specs.Check.{used, checkStages, checkOf, CheckOutcome}
-use Rattle.checks.specs.Usable.{Usable}
 use Rattle.checks.specs.Theorems as check
 use Rattle.checks.specs.declared.Refusal.{Refusal}
 use Rattle.checks.specs.declared.CheckAnswer.{CheckAnswer}
@@ -38,21 +36,24 @@ use Rattle.swap_preparing.specs.Table.{freeIn}
 use Rattle.undo.specs.Stores.{State}
 use Rattle.undo.specs.Calls.{Call, Ended}
 use Rattle.undo.specs.Log.{entriesHeld}
-use Rattle.swaps.specs.Outcome.{lack, short, entriesFor, isClear, swapStages, swapCall, swapOf, SwapOutcome}
+use Rattle.swap_ways.specs.Ways.{lack, short, entriesFor, isClear}
+use Rattle.swaps.specs.Outcome.{swapStages, swapCall, swapOf, SwapOutcome}
 use Rattle.swaps.specs.Entry as swap
-use Rattle.swaps.specs.Entry.{Needed, Dying, HasRoom, LacksRoom, AbleOf}
+use Rattle.swap_ways.specs.Room as room
+use Rattle.swap_ways.specs.Room.{Needed, Dying, HasRoom, LacksRoom}
+use Rattle.swaps.specs.Entry.{AbleOf}
 use Rattle.swaps.specs.Bytes.{outnumbers, lacks-slots}
-use Rattle.swaps.specs.declared.Lack.{Lack}
-use Rattle.swaps.specs.declared.Short.{Short}
+use Rattle.swap_ways.specs.declared.Lack.{Lack}
+use Rattle.swap_ways.specs.declared.Short.{Short}
 use Rattle.swaps.specs.declared.SwapAnswer.{SwapAnswer}
 use Rattle.swaps.specs.declared.SwapAnswer.the-variants as swaps
-use Rattle.slices.specs.OneSwap.{plainSwap}
-use Rattle.slices.specs.Run.{runStages, runOf, RunOutcome}
-use Rattle.slices.specs.Answers.{swapsIn}
-use Rattle.slices.specs.Theorems as run
-use Rattle.slices.specs.Theorems.{Startable}
-use Rattle.slices.specs.declared.RunAnswer.{RunAnswer}
-use Rattle.slices.specs.declared.RunAnswer.the-variants as runs
+use Rattle.runs.specs.OneSwap.{plainSwap}
+use Rattle.runs.specs.Run.{runStages, runOf, RunOutcome}
+use Rattle.runs.specs.Answers.{swapsIn}
+use Rattle.runs.specs.Theorems as run
+use Rattle.runs.specs.Theorems.{Startable}
+use Rattle.runs.specs.declared.RunAnswer.{RunAnswer}
+use Rattle.runs.specs.declared.RunAnswer.the-variants as runs
 use Rattle.recovery.specs.Recover.{recoverStages, recoverCall, recoverOf, RecoverOutcome}
 use Rattle.recovery.specs.Theorems as recover
 use Rattle.recovery.specs.declared.RecoverAnswer.{RecoverAnswer}
@@ -130,9 +131,9 @@ module _ (s : State) (r : List ℕ) (k : ℕ) where
       (AbleOf s r k × LacksRoom t r o k × (l ≡ lack k (Needed t o k) (freeIn t)))
   swap-no-room l = record {
     wherever = λ w.
-        ap (λ (c : Call SwapAnswer). c .answer) (swap.swap-stuck s r k (w .0) (lack k (Needed t o k) (freeIn t)) (swap.lacks-if t r o held k (w .1)))
+        ap (λ (c : Call SwapAnswer). c .answer) (swap.swap-stuck s r k (w .0) (lack k (Needed t o k) (freeIn t)) (room.lacks-if t r o held k (w .1)))
         ∙ ap swaps.NoRoom (sym (w .2));
-    only = λ e. let (able, w) = swap.lacks-only s r k l e in let (h, q) = swap.lacks-then t r o held k l w in (able, h, q);
+    only = λ e. let (able, w) = swap.lacks-only s r k l e in let (h, q) = room.lacks-then t r o held k l w in (able, h, q);
   }
 
   -- log short exactly where there is room, but the swap needs more entries than the log holds; with the level, needed and held
@@ -141,17 +142,17 @@ module _ (s : State) (r : List ℕ) (k : ℕ) where
   swap-log-short l = record {
     wherever = λ w.
         ap (λ (c : Call SwapAnswer). c .answer)
-        (swap.swap-short s r k (w .0) (short k (entriesFor t r o k) held) (swap.short-if t r o held k (w .1) (w .2)))
+        (swap.swap-short s r k (w .0) (short k (entriesFor t r o k) held) (room.short-if t r o held k (w .1) (w .2)))
         ∙ ap swaps.LogShort (sym (w .3));
-    only = λ e. let (able, w) = swap.short-only s r k l e in let (h, n, q) = swap.short-then t r o held k l w in (able, h, n, q);
+    only = λ e. let (able, w) = swap.short-only s r k l e in let (h, n, q) = room.short-then t r o held k l w in (able, h, n, q);
   }
 
   -- made exactly where there is room and the log holds the entries
   pub swap-made : Exactly (swapOf s r k .answer ≡ swaps.Made) (AbleOf s r k × HasRoom t r o k × (entriesFor t r o k ≤ held))
   swap-made = record {
     wherever = λ w.
-        ap (λ (e : Ended SwapAnswer). e .answer) (swap.swap-clear s r k (w .0) (ap isClear (swap.clear-if-fits t r o held k (w .1) (w .2))));
-    only = λ e. let (able, c) = swap.made-only s r k e in let (h, n) = swap.clear-then t r o held k c in (able, h, n);
+        ap (λ (e : Ended SwapAnswer). e .answer) (swap.swap-clear s r k (w .0) (ap isClear (room.clear-if-fits t r o held k (w .1) (w .2))));
+    only = λ e. let (able, c) = swap.made-only s r k e in let (h, n) = room.clear-then t r o held k c in (able, h, n);
   }
 
   -- the other reading of the same: the records used before, plus new, less dying, are more than the table has
@@ -203,7 +204,7 @@ module _ (s : State) (r g : List ℕ) (plan budget : ℕ) where
   pub run-no-room : Startable plainSwap plan s r g → (o′ ≡ g → ⊥) → LacksRoom t′ r o′ next
       → ran .answer ≡ runs.NoRoom (swapsIn (ran .answer)) (left o′ g) (lack next (Needed t′ o′ next) (freeIn t′))
   run-no-room a n h =
-      run.run-stuck plainSwap plan s r g a budget n (lack next (Needed t′ o′ next) (freeIn t′)) (swap.lacks-if t′ r o′ held′ next h)
+      run.run-stuck plainSwap plan s r g a budget n (lack next (Needed t′ o′ next) (freeIn t′)) (room.lacks-if t′ r o′ held′ next h)
 
   -- and only there
   pub run-no-room-only : (m l : ℕ) (k : Lack) → ran .answer ≡ runs.NoRoom m l k
@@ -211,14 +212,14 @@ module _ (s : State) (r g : List ℕ) (plan budget : ℕ) where
   run-no-room-only m l k e =
       let a = run-starts (λ f q. apart (cc)) in
       let (n, w) = run.run-lacks plainSwap plan s r g a budget m l k e in
-      let (h, q) = swap.lacks-then t′ r o′ held′ next k w in
+      let (h, q) = room.lacks-then t′ r o′ held′ next k w in
       (n, h, q)
 
   -- log short where the order left isn't the target, and the plan's next swap has room but needs more entries than the log holds, budget spent or not
   pub run-log-short : Startable plainSwap plan s r g → (o′ ≡ g → ⊥) → HasRoom t′ r o′ next → held′ < entriesFor t′ r o′ next
       → ran .answer ≡ runs.LogShort (swapsIn (ran .answer)) (left o′ g) (short next (entriesFor t′ r o′ next) held′)
   run-log-short a n h e =
-      run.run-short plainSwap plan s r g a budget n (short next (entriesFor t′ r o′ next) held′) (swap.short-if t′ r o′ held′ next h e)
+      run.run-short plainSwap plan s r g a budget n (short next (entriesFor t′ r o′ next) held′) (room.short-if t′ r o′ held′ next h e)
 
   -- and only there
   pub run-log-short-only : (m l : ℕ) (k : Short) → ran .answer ≡ runs.LogShort m l k
@@ -226,7 +227,7 @@ module _ (s : State) (r g : List ℕ) (plan budget : ℕ) where
   run-log-short-only m l k e =
       let a = run-starts (λ f q. apart (cc)) in
       let (n, w) = run.run-shorts plainSwap plan s r g a budget m l k e in
-      let (h, i, q) = swap.short-then t′ r o′ held′ next k w in
+      let (h, i, q) = room.short-then t′ r o′ held′ next k w in
       (n, h, i, q)
 
   -- paused only where the order left isn't the target, the plan's next swap fits and the log holds its entries
@@ -234,7 +235,7 @@ module _ (s : State) (r g : List ℕ) (plan budget : ℕ) where
   run-paused-only m l e =
       let a = run-starts (λ f q. apart (cc)) in
       let (n, w, b) = run.run-paused plainSwap plan s r g a budget m l e in
-      let (h, i) = swap.clear-then t′ r o′ held′ next (ap isClear w) in
+      let (h, i) = room.clear-then t′ r o′ held′ next (ap isClear w) in
       (n, h, i)
 
   pub run-one : {a b : RunAnswer} {s₁ s₂ : State}

@@ -24,17 +24,17 @@ use Rattle.undo.specs.Mending.{puts-long}
 use Rattle.undo.specs.Log.{sealAt, entriesHeld}
 use Rattle.check_log.specs.BadLog.{badLogSize, openStages}
 use Rattle.check_log.specs.Open.{empty-verdict}
-use Rattle.swaps.specs.Outcome.{tableAfter, isClear, wayOf, swapWay, swapStages, storeStages, noLevel, swapAfter, swapJudged, swapCall, swapOf}
+use Rattle.swap_ways.specs.Ways.{tableAfter, isClear, wayOf}
+use Rattle.swaps.specs.Outcome.{swapWay, swapStages, storeStages, noLevel, swapJudged, swapCall, swapOf}
 use Rattle.swaps.specs.Entry.{swap-starts, swap-clear, swap-stuck, swap-short, AbleOf}
-use Rattle.swaps.specs.declared.Way.{Way}
-use Rattle.swaps.specs.declared.Way.the-variants as way
+use Rattle.swap_ways.specs.declared.Way.{Way}
+use Rattle.swap_ways.specs.declared.Way.the-variants as way
 use Rattle.swaps.specs.declared.SwapAnswer.{SwapAnswer}
-use Rattle.slices.specs.OneSwap.{plainSwap}
-use Rattle.slices.specs.Run as run
-use Rattle.slices.specs.Run.{storesOf, relay, badRunSizes, orderStages, runStages, answerOf, runJudged, runCall, runOf}
-use Rattle.slices.specs.Answers.{ranTo}
-use Rattle.slices.specs.Theorems.{Good, Startable, run-starts, run-is, good-start, relay-laws, table-after, order-after}
-use Rattle.slices.specs.declared.RunAnswer.{RunAnswer}
+use Rattle.runs.specs.OneSwap.{plainSwap}
+use Rattle.runs.specs.Run as run
+use Rattle.runs.specs.Run.{storesOf, relay, badRunSizes, orderStages, runStages, answerOf, runJudged, runCall, runOf}
+use Rattle.runs.specs.Answers.{ranTo}
+use Rattle.runs.specs.Theorems.{Good, Startable, run-starts, run-is, good-start, relay-laws, table-after, order-after}
 
 -- two logs of one length, both empty
 pub record Empty (l m : List ℕ) : Type 0 where

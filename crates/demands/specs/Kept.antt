@@ -26,8 +26,8 @@ use Rattle.swaps.specs.Outcome.{swapOf}
 use Rattle.swaps.specs.Entry as swap
 use Rattle.swaps.specs.declared.SwapAnswer.{SwapAnswer}
 use Rattle.swaps.specs.declared.SwapAnswer.the-variants.{Made}
-use Rattle.slices.specs.OneSwap.{plainSwap}
-use Rattle.slices.specs.Run.{runOf}
+use Rattle.runs.specs.OneSwap.{plainSwap}
+use Rattle.runs.specs.Run.{runOf}
 use Rattle.demands.specs.Exactly.{Exactly}
 use Rattle.demands.specs.Moved.{moved-same, swap-moved, run-moved}
 use Rattle.demands.specs.SameRead.{read-same}

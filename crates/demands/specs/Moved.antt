@@ -17,11 +17,11 @@ use Rattle.swaps.specs.Outcome.{swapOf}
 use Rattle.swaps.specs.Entry.{made-only, made-is, made-usable, made-root-value, unmade-state}
 use Rattle.swaps.specs.declared.SwapAnswer.{SwapAnswer}
 use Rattle.swaps.specs.declared.SwapAnswer.the-variants as swaps
-use Rattle.slices.specs.OneSwap.{plainSwap}
-use Rattle.slices.specs.Run.{runOf}
-use Rattle.slices.specs.Theorems.{run-startable, run-usable, run-long, run-root-value, refused-keeps}
-use Rattle.slices.specs.declared.RunAnswer.{RunAnswer}
-use Rattle.slices.specs.declared.RunAnswer.the-variants as runs
+use Rattle.runs.specs.OneSwap.{plainSwap}
+use Rattle.runs.specs.Run.{runOf}
+use Rattle.runs.specs.Theorems.{run-startable, run-usable, run-long, run-root-value, refused-keeps}
+use Rattle.runs.specs.declared.RunAnswer.{RunAnswer}
+use Rattle.runs.specs.declared.RunAnswer.the-variants as runs
 
 -- two tables that can be used, with the same roots, orders of as many variables, and the same value of every root
 pub record Alike (r t o t′ o′ : List ℕ) : Type 0 where

@@ -4,8 +4,8 @@ use mathlib.Core.List.{List, [], _∷_}
 use mathlib.Core.Path.{_≡_, refl, _∙_}
 use Rattle.undo.specs.Stores.{State}
 use Rattle.swaps.specs.Outcome.{swapOf}
-use Rattle.slices.specs.OneSwap.{plainSwap}
-use Rattle.slices.specs.Run.{runOf}
+use Rattle.runs.specs.OneSwap.{plainSwap}
+use Rattle.runs.specs.Run.{runOf}
 use Rattle.demands.specs.Moved.{Alike, MovedTo, moved-same, swap-moved, run-moved}
 
 -- a swap of any level, or a slice towards any target, by the plan with any number and with any budget

@@ -11,14 +11,14 @@ use Rattle.plans.specs.Plans.{reached}
 use Rattle.plans.specs.Numbered.{planOf}
 use Rattle.undo.specs.Stores.{State}
 use Rattle.undo.specs.Calls.{Ended}
-use Rattle.slices.specs.OneSwap.{plainSwap}
-use Rattle.slices.specs.Run.{runOf}
-use Rattle.slices.specs.Answers.{swapsIn, leftIn, withMore}
-use Rattle.slices.specs.Adding.{runsOf, run-add, run-slices}
-use Rattle.slices.specs.Theorems as run
-use Rattle.slices.specs.Theorems.{Startable}
-use Rattle.slices.specs.declared.RunAnswer.{RunAnswer}
-use Rattle.slices.specs.declared.RunAnswer.the-variants.{Done, Paused}
+use Rattle.runs.specs.OneSwap.{plainSwap}
+use Rattle.runs.specs.Run.{runOf}
+use Rattle.runs.specs.Answers.{swapsIn, leftIn, withMore}
+use Rattle.runs.specs.Adding.{runsOf, run-add, run-slices}
+use Rattle.runs.specs.Theorems as run
+use Rattle.runs.specs.Theorems.{Startable}
+use Rattle.runs.specs.declared.RunAnswer.{RunAnswer}
+use Rattle.runs.specs.declared.RunAnswer.the-variants.{Done, Paused}
 
 -- all slices use the plan with this number
 module _ (plan : ℕ) (s : State) (r g : List ℕ) where

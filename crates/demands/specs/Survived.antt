@@ -4,14 +4,14 @@
 --
 -- `swapCut` and `runCut` are what the code leaves that is run with fuel for f stores, and `recoverCut` is the same of Recover; `recovers` makes one recovery
 -- after the other, each cut after so many stores.
-use Prim.Native.Nat.{ℕ, zero, suc, _+_, _-_, _≤_, _<_}
-use mathlib.Core.Bool.{true, false}
+use Prim.Native.Nat.{ℕ, _+_, _-_, _≤_, _<_}
+use mathlib.Core.Bool.{false}
 use mathlib.Core.List.{List, [], _∷_, _++_, append-assoc}
 use mathlib.Core.Path.{_≡_, refl, ap, sym, _∙_, subst}
 use native.Mathlib.Omega.{arith}
 use lib.ListN.{length, take}
 use Rattle.orders.specs.Exchange.{exchange}
-use Rattle.plans.specs.Numbered.{planOf, plan-of-lawful}
+use Rattle.plans.specs.Numbered.{planOf}
 use Rattle.plans.specs.Plans.{Plan}
 use Rattle.slice_rules.specs.Slices as over
 use Rattle.slice_rules.specs.Slices.{Relay}
@@ -28,19 +28,20 @@ use Rattle.recovery.specs.Theorems as recover
 use Rattle.recovery.specs.Again.{Accepting, recovers, recover-answers, quiet-accepts, quiet-stays, cut-accepts, cut-before, cut-after}
 use Rattle.recovery.specs.declared.RecoverAnswer.{RecoverAnswer}
 use Rattle.recovery.specs.declared.RecoverAnswer.the-variants.{PutBack}
-use Rattle.swaps.specs.Outcome.{tableAfter, swapAfter, swapCall, swapOf, swapCut, way-clear}
+use Rattle.swap_ways.specs.Ways.{tableAfter, way-clear}
+use Rattle.swaps.specs.Outcome.{swapAfter, swapCall, swapOf, swapCut}
 use Rattle.swaps.specs.Entry.{AbleOf, made-only, made-is, call-is, swap-ready}
-use Rattle.swaps.specs.declared.Way.{Way}
+use Rattle.swap_ways.specs.declared.Way.{Way}
 use Rattle.swaps.specs.declared.SwapAnswer.{SwapAnswer}
 use Rattle.swaps.specs.declared.SwapAnswer.the-variants.{Made}
-use Rattle.slices.specs.OneSwap.{plainSwap}
-use Rattle.slices.specs.Run.{relay, runStores, runCut, runOf}
-use Rattle.slices.specs.Answers.{swapsIn, withMore, asOne}
-use Rattle.slices.specs.Adding.{run-add}
-use Rattle.slices.specs.Stores.{CutAt, between, within, cut-at}
-use Rattle.slices.specs.Theorems as run
-use Rattle.slices.specs.Theorems.{Good, Startable, relay-laws}
-use Rattle.slices.specs.declared.RunAnswer.{RunAnswer}
+use Rattle.runs.specs.OneSwap.{plainSwap}
+use Rattle.runs.specs.Run.{relay, runStores, runCut, runOf}
+use Rattle.runs.specs.Answers.{swapsIn, withMore, asOne}
+use Rattle.runs.specs.Adding.{run-add}
+use Rattle.runs.specs.Stores.{CutAt, between, within, cut-at}
+use Rattle.runs.specs.Theorems as run
+use Rattle.runs.specs.Theorems.{Good, Startable}
+use Rattle.runs.specs.declared.RunAnswer.{RunAnswer}
 use Rattle.demands.specs.EmptyLog.{Agree, Like, like-runs}
 
 -- check 1 of a recovery, which has no roots

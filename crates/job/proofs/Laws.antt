@@ -10,11 +10,11 @@ use Rattle.checks.specs.Stages.{refusal, verdictOf}
 use Rattle.checks.specs.declared.Refusal.{Refusal}
 use Rattle.checks.specs.declared.Verdict.{Verdict}
 use Rattle.checks.specs.declared.Verdict.the-variants as verdict
-use Rattle.slices.specs.OneSwap.{plainSwap}
+use Rattle.runs.specs.OneSwap.{plainSwap}
 use Rattle.undo.specs.Stores.{state}
-use Rattle.slices.specs.Run.{storeStages, runOf, RunOutcome}
-use Rattle.slices.specs.declared.RunAnswer.{RunAnswer}
-use Rattle.slices.specs.declared.RunAnswer.the-variants.{Refused}
+use Rattle.runs.specs.Run.{storeStages, runOf, RunOutcome}
+use Rattle.runs.specs.declared.RunAnswer.{RunAnswer}
+use Rattle.runs.specs.declared.RunAnswer.the-variants.{Refused}
 use Rattle.job.specs.Job.{largestBudget, emptyLog, ranOf, unplanned, jobWith, JobOutcome}
 
 pub answer-refuses : {v u : Verdict} {f : Refusal} → u ≡ v → u ≡ verdict.Refused f → Refused f ≡ unplanned v

@@ -9,13 +9,13 @@ use lib.ListN.{length, getD, replicate}
 use Rattle.checks.specs.Stages.{refusal, verdictOf}
 use Rattle.checks.specs.declared.Verdict.{Verdict}
 use Rattle.checks.specs.declared.Verdict.the-variants as verdict
-use Rattle.slices.specs.OneSwap.{plainSwap}
+use Rattle.runs.specs.OneSwap.{plainSwap}
 use Rattle.undo.specs.Stores.{state}
 use Rattle.undo.specs.Calls.{Ended}
 use Rattle.undo.specs.Log.{entrySize, mostLogRecords}
-use Rattle.slices.specs.Run.{storeStages, runOf}
-use Rattle.slices.specs.declared.RunAnswer.{RunAnswer}
-use Rattle.slices.specs.declared.RunAnswer.the-variants.{Refused}
+use Rattle.runs.specs.Run.{storeStages, runOf}
+use Rattle.runs.specs.declared.RunAnswer.{RunAnswer}
+use Rattle.runs.specs.declared.RunAnswer.the-variants.{Refused}
 
 -- the largest number of 32 bits
 abbrev pub largestBudget : ℕ

@@ -3,14 +3,14 @@ ghost use mathlib.Core.Path.{_≡_};
 ghost use Prim.Native.Nat.{_<_};
 ghost use lib.ListN.{getD};
 ghost use Rattle.checks.specs.Stages.{verdictOf};
-ghost use Rattle.slices.specs.OneSwap.{plainSwap};
-ghost use Rattle.slices.specs.Run.{storeStages};
+ghost use Rattle.runs.specs.OneSwap.{plainSwap};
+ghost use Rattle.runs.specs.Run.{storeStages};
 ghost use Rattle.job.specs.Job.{emptyLog, unplanned, JobOutcome};
 use checks::Refusal;
 use checks::Verdict;
 use pen::ENTRY_SIZE;
 use pen::MOST_LOG_RECORDS;
-use slices::RunAnswer;
+use runs::RunAnswer;
 
 // The first byte of trip.pln; 0 where it is empty.
 pub fn number_in(plan: &[u8]) -> usize
@@ -35,7 +35,7 @@ fn refuse(table: &[u8], roots: &[u8], order: &[u8], target: &[u8], log: &[u8]) -
         ⌜ a ≡ unplanned (verdictOf (storeStages plainSwap (now (table .entry)) (now (roots .entry)) (now (order .entry)) (now (target .entry))
         (now (log .entry)))) ⌝ }
 {
-    match slices::verdict_of_store(table, roots, order, target, log) {
+    match runs::verdict_of_store(table, roots, order, target, log) {
         Verdict::Refused(refusal) => RunAnswer::Refused(refusal),
         Verdict::Clear => RunAnswer::Refused(Refusal {
             number: 13,

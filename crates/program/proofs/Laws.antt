@@ -5,7 +5,7 @@ use mathlib.Core.List.{List}
 use mathlib.Core.Path.{_≡_, ap, _∙_}
 use borrow.Author.Needs.{needs}
 use lib.ListN.{getD}
-use Rattle.slices.specs.declared.RunAnswer.{RunAnswer}
+use Rattle.runs.specs.declared.RunAnswer.{RunAnswer}
 use Rattle.labels.specs.Label.{textOf}
 use Rattle.job.specs.Job.{JobOutcome}
 use Rattle.texts.specs.Put.{Put, Printed, put-nothing, space-as, put-as}

@@ -22,10 +22,10 @@ use Rattle.labels.specs.Label.{labelSize, mostLabels, textOf}
 use Rattle.labels.specs.Labelled.{RightLength, Unlabelled, site-wrong, factory-wrong}
 use Rattle.labels.specs.Texts.{text-empty-if}
 use Rattle.plans.specs.Numbered.{noPlan}
-use Rattle.slices.specs.OneSwap.{plainSwap}
-use Rattle.slices.specs.Run.{badRunSizes, storeStages, runStages, runCall}
-use Rattle.slices.specs.Theorems.{run-sizes}
-use Rattle.slices.specs.declared.RunAnswer.the-variants.{Refused}
+use Rattle.runs.specs.OneSwap.{plainSwap}
+use Rattle.runs.specs.Run.{badRunSizes, storeStages, runStages, runCall}
+use Rattle.runs.specs.Theorems.{run-sizes}
+use Rattle.runs.specs.declared.RunAnswer.the-variants.{Refused}
 use Rattle.texts.specs.Text.{bytes, places, decimal, numbered}
 use Rattle.program.specs.Text.{answerText, answerLine, planText, storeText, printed}
 use Rattle.undo.specs.Stores.{puts}

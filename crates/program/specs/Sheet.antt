@@ -6,8 +6,8 @@ use lib.ListN.{length, replicate}
 use Rattle.lists.specs.First.{first}
 use Rattle.checks.specs.Stages.{refusal}
 use Rattle.labels.specs.Label.{textSize, badLength, names, labelOf, textOf}
-use Rattle.swaps.specs.Outcome.{lack, short}
-use Rattle.slices.specs.declared.RunAnswer.the-variants.{Done, NoRoom, LogShort, Refused}
+use Rattle.swap_ways.specs.Ways.{lack, short}
+use Rattle.runs.specs.declared.RunAnswer.the-variants.{Done, NoRoom, LogShort, Refused}
 use Rattle.sheet.specs.Sheet.{outcome}
 use Rattle.job.specs.Job.{jobWith}
 use Rattle.texts.specs.Text.{bytes, places, decimal, numbered, beforeZero, inTurn}

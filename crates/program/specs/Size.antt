@@ -7,10 +7,10 @@ use lib.Dec.{lit≤}
 use lib.ListN.{length}
 use Rattle.labels.specs.Label.{textSize, textOf}
 use Rattle.labels.specs.Texts.{text-short}
-use Rattle.swaps.specs.declared.Lack.{Lack}
-use Rattle.swaps.specs.declared.Short as swap
-use Rattle.slices.specs.declared.RunAnswer.{RunAnswer}
-use Rattle.slices.specs.declared.RunAnswer.the-variants.{Done, NoRoom, LogShort, Paused, Refused}
+use Rattle.swap_ways.specs.declared.Lack.{Lack}
+use Rattle.swap_ways.specs.declared.Short as swap
+use Rattle.runs.specs.declared.RunAnswer.{RunAnswer}
+use Rattle.runs.specs.declared.RunAnswer.the-variants.{Done, NoRoom, LogShort, Paused, Refused}
 use Rattle.texts.specs.Text.{bytes}
 use Rattle.texts.specs.Put.{Space}
 use Rattle.texts.specs.Short.{Short, short, both-short, shorter, either-short, word-short, numbered-any}

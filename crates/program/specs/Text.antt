@@ -3,10 +3,10 @@
 use Prim.Native.Nat.{ℕ}
 use mathlib.Core.Bool.{Bool, true, false, cond}
 use mathlib.Core.List.{List, [], _++_}
-use Rattle.swaps.specs.declared.Lack.{Lack}
-use Rattle.swaps.specs.declared.Short.{Short}
-use Rattle.slices.specs.declared.RunAnswer.{RunAnswer}
-use Rattle.slices.specs.declared.RunAnswer.the-variants.{Done, NoRoom, LogShort, Paused, Refused}
+use Rattle.swap_ways.specs.declared.Lack.{Lack}
+use Rattle.swap_ways.specs.declared.Short.{Short}
+use Rattle.runs.specs.declared.RunAnswer.{RunAnswer}
+use Rattle.runs.specs.declared.RunAnswer.the-variants.{Done, NoRoom, LogShort, Paused, Refused}
 use Rattle.texts.specs.Text.{bytes, numbered}
 use Rattle.listing.specs.Text.{listing}
 

@@ -142,7 +142,7 @@ module _ (t r o : List ℕ) (position : ℕ) (inputs : List ℕ) where
   unfolding readOf readStages Bounded
   read-place-small m k x g l e =
       refusal-small t r o (stageAt 10 position (noRoot r position) ∷ stageAt 11 0 (badInputs o inputs) ∷ []) m k x g
-      (omega arith, omega arith, (omega arith, omega arith, tt))
+      (λ s. (omega arith, omega arith, (omega arith, omega arith, tt)))
       (read-refused _ _ (refusal k x) e) .1
 
   -- one outcome for each input

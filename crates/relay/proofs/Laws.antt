@@ -37,10 +37,10 @@ use Rattle.recovery.specs.declared.RecoverAnswer.{RecoverAnswer}
 use Rattle.swaps.specs.Outcome as swap
 use Rattle.swaps.specs.Outcome.{SwapOutcome}
 use Rattle.swaps.specs.declared.SwapAnswer.{SwapAnswer}
-use Rattle.slices.specs.OneSwap.{plainSwap}
-use Rattle.slices.specs.Run as run
-use Rattle.slices.specs.Run.{RunOutcome}
-use Rattle.slices.specs.declared.RunAnswer.{RunAnswer}
+use Rattle.runs.specs.OneSwap.{plainSwap}
+use Rattle.runs.specs.Run as run
+use Rattle.runs.specs.Run.{RunOutcome}
+use Rattle.runs.specs.declared.RunAnswer.{RunAnswer}
 use Rattle.relay_numbers.specs.Written.{Written, wrote, written, told, tells-it}
 use Rattle.relay_parts.specs.Small.{Small, small}
 use Rattle.relay.specs.Told.{toldCount, toldSwap, toldRun, toldRecover, CountTold, SwapTold, RunTold, RecoverTold}

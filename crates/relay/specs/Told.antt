@@ -18,8 +18,8 @@ use Rattle.counting.specs.declared.CountAnswer.the-variants as counted
 use Rattle.undo.specs.Stores.{State}
 use Rattle.recovery.specs.Recover as recover
 use Rattle.swaps.specs.Outcome as swap
-use Rattle.slices.specs.OneSwap.{plainSwap}
-use Rattle.slices.specs.Run as run
+use Rattle.runs.specs.OneSwap.{plainSwap}
+use Rattle.runs.specs.Run as run
 use Rattle.relay_numbers.specs.Written.{Written, wrote, written, Told, told}
 
 -- ---- calls that change nothing but the list

@@ -8,9 +8,9 @@ use Rattle.recovery.specs.Recover as recover
 use Rattle.recovery.specs.Bounds.{recover-numbers-small}
 use Rattle.swaps.specs.Outcome as swap
 use Rattle.swaps.specs.Bounds.{swap-numbers-small}
-use Rattle.slices.specs.OneSwap.{plainSwap}
-use Rattle.slices.specs.Run as run
-use Rattle.slices.specs.Bounds.{run-numbers-small}
+use Rattle.runs.specs.OneSwap.{plainSwap}
+use Rattle.runs.specs.Run as run
+use Rattle.runs.specs.Bounds.{run-numbers-small}
 
 abbrev pub limit : ℕ
 limit = 4294967296

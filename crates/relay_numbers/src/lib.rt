@@ -4,12 +4,12 @@ ghost use mathlib.Core.Path.{_≡_};
 ghost use Prim.Native.Nat.{_<_};
 ghost use Rattle.recovery.specs.Recover as recover;
 ghost use Rattle.swaps.specs.Outcome as swap;
-ghost use Rattle.slices.specs.Run as run;
+ghost use Rattle.runs.specs.Run as run;
 ghost use Rattle.relay_numbers.specs.Written.{wrote, written};
 ghost use Rattle.relay_numbers.specs.Fits.{limit, Fits};
 use checks::Refusal;
 use recovery::RecoverAnswer;
-use slices::RunAnswer;
+use runs::RunAnswer;
 use swaps::SwapAnswer;
 
 // The first numbers of three answers that are no refusal.

@@ -5,9 +5,9 @@ use mathlib.Core.Path.{_≡_, refl}
 use lib.ListN.{replicate}
 use Rattle.diagrams.specs.Node.{Node, free, node}
 use Rattle.checks.specs.Stages.{refusal}
-use Rattle.swaps.specs.Outcome.{lack, short}
-use Rattle.slices.specs.declared.RunAnswer.{RunAnswer}
-use Rattle.slices.specs.declared.RunAnswer.the-variants.{Done, NoRoom, LogShort, Paused, Refused}
+use Rattle.swap_ways.specs.Ways.{lack, short}
+use Rattle.runs.specs.declared.RunAnswer.{RunAnswer}
+use Rattle.runs.specs.declared.RunAnswer.the-variants.{Done, NoRoom, LogShort, Paused, Refused}
 use Rattle.sheet.specs.Sheet.{Given, rootBytes, outcome, ranFrom}
 
 pub record LogRow : Type 0 where

@@ -34,13 +34,13 @@ use Rattle.undo.specs.Stores.{state, run, put, puts}
 use Rattle.undo.specs.Calls.{Ended}
 use Rattle.undo.specs.Log.{changed, entriesOf, entriesNeeded, entryStores, logging, sealing, putting, swapStores}
 use Rattle.check_log.specs.BadLog.{badLogSize, someByte, badSeal, malformed, past, repeats, badEntry, entryStages, logStages, openStages}
-use Rattle.swaps.specs.Outcome.{wayOf, lack}
+use Rattle.swap_ways.specs.Ways.{wayOf, lack}
 use Rattle.slice_rules.specs.Slices as over
 use Rattle.slice_rules.specs.Slices.{arrived, next, goes, made, leaves, slice}
-use Rattle.slices.specs.OneSwap.{plainSwap}
-use Rattle.slices.specs.Run.{relay, runStores, badRunSizes, orderStages, storeStages, runStages, answerOf, runCall, runOf}
-use Rattle.slices.specs.declared.RunAnswer.{RunAnswer}
-use Rattle.slices.specs.declared.RunAnswer.the-variants.{Done, NoRoom, Paused, Refused}
+use Rattle.runs.specs.OneSwap.{plainSwap}
+use Rattle.runs.specs.Run.{relay, runStores, badRunSizes, orderStages, storeStages, runStages, answerOf, runCall, runOf}
+use Rattle.runs.specs.declared.RunAnswer.{RunAnswer}
+use Rattle.runs.specs.declared.RunAnswer.the-variants.{Done, NoRoom, Paused, Refused}
 
 -- the buffers, the plan's number and the budget of a run
 pub record Given : Type 0 where

@@ -1,150 +1,63 @@
 -- One law for each way out of a function, over plain variables: its premises are what is known there.
-use Prim.Native.Nat.{ℕ, zero, suc, _+_, _-_, _*_, _≤_, _<_}
+use Prim.Native.Nat.{ℕ, _+_, _-_, _*_, _≤_, _<_}
 use mathlib.Core.Bool.{Bool, true, false, cond, not}
 use mathlib.Core.List.{List, [], _++_, append-nil}
 use mathlib.Core.Path.{_≡_, refl, ap, ap₂, sym, _∙_, subst}
-use native.Mathlib.Nat.{add-zero}
 use native.Mathlib.Omega.{arith}
 use borrow.Author.Needs.{needs}
 use borrow.Author.Tests.{not-true, not-false}
-use lib.Dec.{eqb}
 use lib.ListN.{length, take, length-append}
 use lib.Seq.{take-all, take-nil, take-append-le}
-use Rattle.lists.specs.First.{passed-all}
 use Rattle.lists.specs.Says.{true-false, either-side}
-use Rattle.lists.specs.Truth.{or-neither}
-use Rattle.diagrams.specs.Layout.{records}
 use Rattle.orders.specs.Permutation.{ceiling, Permutation}
 use Rattle.orders.specs.Exchange.{exchange}
-use Rattle.orders.specs.Order.{loadOrder, exchangedOrder, Inverse}
-use Rattle.orders.specs.Arranged.{bytesOf, Arranged, load-bytes, load-arranged, arranged-length, arranged-inverse, exchanged-arranged, exchanged-bytes}
+use Rattle.orders.specs.Order.{loadOrder, exchangedOrder}
+use Rattle.orders.specs.Arranged.{bytesOf, Arranged, load-bytes, load-arranged, exchanged-arranged, exchanged-bytes}
 use Rattle.orders.specs.declared.Order.{Order}
 use Rattle.plans.specs.Inversions.{left}
 use Rattle.plans.specs.Plans.{Plan, same?}
-use Rattle.plans.specs.Numbered.{planOf, meant, meant-lawful}
+use Rattle.plans.specs.Numbered.{planOf, meant}
 use Rattle.plans.specs.declared.Plan as coded
-use Rattle.plans.specs.Towards.{arranged-adjacent}
 use Rattle.slice_rules.specs.Slices as over
 use Rattle.slice_rules.specs.Slices.{Relay, slicing-begins, slicing-goes, slicing-rests, slicing-ends}
-use Rattle.check_sizes.specs.Sizes.{TableSizes, sized, badSizes, sizes-if}
-use Rattle.checks.specs.Stages.{verdictOf, clear-only, chain, refusal, place-refuses, place-passes, row-refuses, row-passes}
+use Rattle.check_sizes.specs.Sizes.{TableSizes, sized}
+use Rattle.checks.specs.Stages.{verdictOf, clear-only}
 use Rattle.checks.specs.declared.Refusal.{Refusal}
 use Rattle.checks.specs.declared.Verdict.{Verdict}
 use Rattle.checks.specs.declared.Verdict.the-variants as verdict
-use Rattle.undo.specs.Stores.{inTable, inOrder, inLog, Buffer, bufferOf, State, state, Store, puts}
+use Rattle.undo.specs.Stores.{inTable, inOrder, inLog, State, state, Store, puts}
 use Rattle.undo.specs.Calls.{Call, whole, cut, only, only-cut, cut-late}
-use Rattle.undo.specs.Mending.{puts-long}
 use Rattle.undo.specs.Wrote.{Spent, spent-none, spent-more, spent-as, spent-long}
-use Rattle.undo.specs.Log.{entrySize, mostLogRecords, entriesHeld}
+use Rattle.undo.specs.Log.{entriesHeld}
 use Rattle.undo.specs.Survives.{Ready, Quiet, swap-quiet}
 use Rattle.undo.specs.Counts.{enough}
-use Rattle.check_log.specs.BadLog.{LogSizes, openStages}
-use Rattle.check_log.specs.Open.{open-sizes}
 use Rattle.check_log.specs.Accepted.{same-size}
-use Rattle.check_log.specs.Slots.{Placeable}
 use Rattle.swap_rules.specs.Swap.{xAt, yAt}
 use Rattle.swaps.specs.Bytes.{length-after}
-use Rattle.swaps.specs.Entry.{clear-then}
-use Rattle.swaps.specs.Outcome.{tableAfter, wayOf, isClear, swapWay, swapAfter}
-use Rattle.swaps.specs.Work.{Storable, Swapped}
-use Rattle.swaps.specs.declared.Lack.{Lack}
-use Rattle.swaps.specs.declared.Short.{Short}
+use Rattle.swap_ways.specs.Room.{clear-then}
+use Rattle.swap_ways.specs.Ways.{tableAfter, wayOf, isClear}
+use Rattle.swaps.specs.Outcome.{swapAfter}
+use Rattle.swaps.specs.Work.{Swapped}
+use Rattle.swap_ways.specs.declared.Lack.{Lack}
+use Rattle.swap_ways.specs.declared.Short.{Short}
 use Rattle.swaps.specs.declared.Swapping.{Swapping}
-use Rattle.swaps.specs.declared.Way.{Way}
-use Rattle.swaps.specs.declared.Way.the-variants as way
-use Rattle.slices.specs.OneSwap.{plainSwap}
-use Rattle.slices.specs.Run.{storesOf, relay, runStores, badRunSizes, orderStages, storeStages, runStages, answerOf, sliceAnswer}
-use Rattle.slices.specs.Run.{sliceCall, runJudged, runCall, RunOutcome}
-use Rattle.slices.specs.Work.{Drivable, Judgeable, progressOf, Stepped, Driven, judgedOn, Stopped}
-use Rattle.slices.specs.Stores.{nextStores, stepped-is, stores-rest, stores-add, stores-leave, stores-few}
-use Rattle.slices.specs.Theorems.{Runnable, few-stores, run-sizes, run-starts}
-use Rattle.slices.specs.declared.RunAnswer.{RunAnswer}
-use Rattle.slices.specs.declared.RunAnswer.the-variants.{Done, NoRoom, LogShort, Paused, Refused}
+use Rattle.swap_ways.specs.declared.Way.{Way}
+use Rattle.swap_ways.specs.declared.Way.the-variants as way
+use Rattle.runs.specs.OneSwap.{plainSwap}
+use Rattle.runs.specs.Run.{storesOf, relay, runStores, runStages}
+use Rattle.runs.specs.Run.{sliceCall, runJudged, runCall, RunOutcome}
+use Rattle.slice_judging.specs.Drivable.{Drivable, few-levels, order-arranged, goal-arranged, order-inverse, differ}
+use Rattle.slice_judging.specs.Drivable.{plan-inside, plan-in-order, plan-low, plan-storable, arrived-as, next-is}
+use Rattle.slice_judging.specs.Judged.{judgedOn}
+use Rattle.slices.specs.Work.{progressOf, Stepped, Driven, Stopped}
+use Rattle.runs.specs.Stores.{nextStores, stepped-is, stores-rest, stores-add}
+use Rattle.runs.specs.Theorems.{Runnable, few-stores, run-starts}
+use Rattle.runs.specs.declared.RunAnswer.{RunAnswer}
+use Rattle.runs.specs.declared.RunAnswer.the-variants.{NoRoom, LogShort, Refused}
 use Rattle.slices.specs.declared.Progress.{Progress}
-use Rattle.slices.specs.declared.Reached.{Reached}
+use Rattle.slice_judging.specs.declared.Reached.{Reached}
 
--- ---- the refusals
-
-pub ruleset ordering = (passed-all, chain)
-
-module _ (t r o g log : List ℕ) {b : Bool} (sizes : b ≡ badRunSizes t r o g) where
-  pub sizes-refuse : b ≡ true → verdict.Refused (refusal 1 0) ≡ verdictOf (storeStages plainSwap t r o g log)
-  unfolding storeStages
-  sizes-refuse h = place-refuses 1 0 (badRunSizes t r o g) b _ sizes h
-
-  module _ (h : b ≡ false) where
-    pub sizes-right : badSizes t r o ≡ false
-    unfolding badRunSizes
-    sizes-right = or-neither (badSizes t r o) (not (eqb (length g) (length o))) (sym sizes ∙ h) .0
-
-    pub placeable : {m : ℕ} → m ≡ records t → Placeable m (length o)
-    placeable {m} e = let w = run-sizes t r o g (sym sizes ∙ h) .0 in (w .some-variables, omega (arith, w .few-records, w .few-variables))
-
-    module _ {m : ℕ} (e : m ≡ records t) {v : Verdict} (judged : v ≡ verdictOf (openStages log m (length o))) where
-      log-is : v ≡ verdictOf (openStages log (records t) (length o))
-      log-is = judged ∙ ap (λ n. verdictOf (openStages log n (length o))) e
-
-      pub log-refuses : {f : Refusal} → v ≡ verdict.Refused f → verdict.Refused f ≡ verdictOf (storeStages plainSwap t r o g log)
-      unfolding storeStages
-      log-refuses {f} q = place-passes 1 0 (badRunSizes t r o g) b _ _ sizes h (row-refuses (openStages log (records t) (length o)) _ f log-is q)
-
-      pub orders-judged : {w : Verdict} → v ≡ verdict.Clear → w ≡ verdictOf (orderStages plainSwap t r o g)
-          → w ≡ verdictOf (storeStages plainSwap t r o g log)
-      unfolding storeStages
-      orders-judged {w} q z = place-passes 1 0 (badRunSizes t r o g) b w _ sizes h (row-passes (openStages log (records t) (length o)) _ log-is q z)
-
-pub ruleset refusing = (sizes-refuse, sizes-right, placeable, log-refuses, orders-judged, needs)
-
--- ---- whatever the plan is
-
-module _ {t r o log : List ℕ} {order goal : Order} {n : ℕ} (d : Drivable t r o log order goal n) where
-  pub few-levels : n ≤ ceiling
-  few-levels = d .arranged .few
-
-  pub order-arranged : Arranged order n
-  order-arranged = d .arranged
-
-  pub goal-arranged : Arranged goal n
-  goal-arranged = d .towards
-
-  pub order-inverse : Inverse order
-  order-inverse = arranged-inverse (d .arranged)
-
-  pub log-sized : LogSizes log
-  log-sized = open-sizes (d .log-open)
-
-  pub table-sized : TableSizes t r
-  table-sized = d .sized
-
-  order-long : length o ≡ n
-  order-long = ap length (d .bytes) ∙ arranged-length (d .arranged)
-
-  -- the plan's pair of levels
-  module _ (name : coded.Plan) {b : Bool} (same : b ≡ same? (bytesOf order n) (bytesOf goal n)) (apart : b ≡ false)
-      {k : ℕ} (planned : k ≡ meant name (bytesOf order n) (bytesOf goal n)) where
-    plan-inside : k + 1 < n
-    plan-inside =
-        let l = rw (arranged-length (d .arranged)) at (arranged-adjacent (d .arranged) (d .towards) (sym same ∙ apart) (meant-lawful name) .within) in
-        rw planned l
-
-    pub plan-in-order : k + 1 < length o
-    plan-in-order = rw order-long plan-inside
-
-    pub plan-low : k + 1 < ceiling
-    plan-low = omega (arith, plan-inside, d .arranged .few)
-
-    pub plan-storable : Storable t r o log k
-    plan-storable = record {
-      sized = d .sized;
-      level = plan-in-order;
-      few-levels = rw order-long (d .arranged .few);
-      log-sized = open-sizes (d .log-open);
-    }
-
-pub differ : (o g : List ℕ) {b : Bool} → b ≡ same? o g → b ≡ false → same? o g ≡ false
-differ o g e h = sym e ∙ h
-
--- ---- one planned swap, and the answer judged on the state left
+-- ---- one planned swap
 
 module _ (name : coded.Plan) {t r o log : List ℕ} {order goal : Order} {n : ℕ} (d : Drivable t r o log order goal n)
     {b : Bool} (same : b ≡ same? (bytesOf order n) (bytesOf goal n)) where
@@ -157,33 +70,21 @@ module _ (name : coded.Plan) {t r o log : List ℕ} {order goal : Order} {n : �
   abbrev s : State
   s = state t o log
 
-  arrived-as : b ≡ over.arrived (relay plainSwap r) plan g s
-  unfolding over.arrived relay
-  arrived-as = same ∙ ap (λ x. same? x g) (sym (d .bytes))
-
   -- the order is the target
   pub step-arrived : {f : ℕ} → b ≡ true → Stepped plainSwap plan s r g n f (record { moved = false; order = order; fuel = f }) s
   unfolding over.goes
   step-arrived e = record {
-    moves = rw (sym arrived-as ∙ e);
+    moves = rw (sym (arrived-as plan d same) ∙ e);
     spent = spent-none;
     arranged = d .arranged;
     exchanged = λ f. true-false (sym f);
   }
 
-  pub judge-done : (swaps : ℕ) {l : ℕ} → l ≡ left (bytesOf order n) g → b ≡ true → Done swaps l ≡ judgedOn plainSwap plan s r g swaps
-  unfolding answerOf over.judge relay
-  judge-done swaps counted e = rw (sym arrived-as ∙ e, counted, d .bytes)
-
   -- the order isn't the target: the plan has a next level
   module _ (apart : b ≡ false) {k : ℕ} (planned : k ≡ plan (bytesOf order n) g) where
-    next-is : k ≡ over.next (relay plainSwap r) plan g s
-    unfolding over.next relay
-    next-is = planned ∙ ap (λ x. plan x g) (sym (d .bytes))
-
     met : {w : Way} → w ≡ wayOf t r o (entriesHeld log) k → over.goes (relay plainSwap r) plan g s ≡ isClear w
     unfolding over.goes relay
-    met e = rw (sym arrived-as ∙ apart, ← next-is, ← e)
+    met e = rw (sym (arrived-as plan d same) ∙ apart, ← next-is plan d planned, ← e)
 
     pub step-made : {f : ℕ} {a : Swapping} {p : Progress} {s′ : State} → Swapped f s r k a s′ → p ≡ progressOf a order k
         → Stepped plainSwap plan s r g n f p s′
@@ -193,7 +94,7 @@ module _ (name : coded.Plan) {t r o log : List ℕ} {order goal : Order} {n : �
         inside = plan-inside d name same apart planned
 
         stores : (v : Way) → cond (isClear v) (storesOf plainSwap r s (over.next (relay plainSwap r) plan g s)) [] ≡ swapAfter s r k v .stores
-        stores way.Clear = rw (← next-is)
+        stores way.Clear = rw (← next-is plan d planned)
         stores (way.NoRoom l) = refl
         stores (way.LogShort l) = refl
 
@@ -212,36 +113,11 @@ module _ (name : coded.Plan) {t r o log : List ℕ} {order goal : Order} {n : �
 
             moved : (z : Way) → isClear z ≡ true
                 → bytesOf (cond (isClear z) (exchangedOrder order k) order) n ≡ exchange o (over.next (relay plainSwap r) plan g s)
-            moved way.Clear c = exchanged-bytes (d .arranged) k inside ∙ ap₂ exchange (sym (d .bytes)) next-is
+            moved way.Clear c = exchanged-bytes (d .arranged) k inside ∙ ap₂ exchange (sym (d .bytes)) (next-is plan d planned)
             moved (way.NoRoom l) c = true-false (sym c)
             moved (way.LogShort l) c = true-false (sym c)
 
-    module _ (swaps : ℕ) {l : ℕ} (counted : l ≡ left (bytesOf order n) g) {held : ℕ} (holds : held ≡ entriesHeld log)
-        {w : Way} (asked : w ≡ wayOf t r o held k) where
-      judge-meets : answerOf swaps l (over.meets w) ≡ judgedOn plainSwap plan s r g swaps
-      unfolding relay
-      judge-meets =
-          ap₂ (answerOf swaps) (counted ∙ ap (λ x. left x g) (sym (d .bytes)))
-          (ap over.meets (asked ∙ ap₂ (λ (h i : ℕ). wayOf t r o h i) holds next-is)
-          ∙ sym (over.meets-next (relay plainSwap r) plan g s (sym arrived-as ∙ apart)))
-
-      pub judge-stuck : {lack : Lack} → w ≡ way.NoRoom lack → NoRoom swaps l lack ≡ judgedOn plainSwap plan s r g swaps
-      unfolding answerOf
-      judge-stuck e = ap (λ z. answerOf swaps l (over.meets z)) (sym e) ∙ judge-meets
-
-      pub judge-short : {short : Short} → w ≡ way.LogShort short → LogShort swaps l short ≡ judgedOn plainSwap plan s r g swaps
-      unfolding answerOf
-      judge-short e = ap (λ z. answerOf swaps l (over.meets z)) (sym e) ∙ judge-meets
-
-      pub judge-paused : w ≡ way.Clear → Paused swaps l ≡ judgedOn plainSwap plan s r g swaps
-      unfolding answerOf
-      judge-paused e = ap (λ z. answerOf swaps l (over.meets z)) (sym e) ∙ judge-meets
-
-pub ruleset planning = (few-levels, order-arranged, goal-arranged, differ, log-sized, table-sized, plan-in-order, needs)
-
 pub ruleset stepping = (few-levels, order-arranged, goal-arranged, differ, plan-low, order-inverse, plan-storable, step-arrived, step-made, needs)
-
-pub ruleset judging = (judge-done, judge-stuck, judge-short, judge-paused)
 
 -- ---- after a swap
 
@@ -493,7 +369,6 @@ module _ (t r o g log : List ℕ) (starts : Runnable plainSwap (state t o log) r
 pub ruleset starting = (target-short, target-permuted, order-short, order-permuted, slice-drivable, needs)
 
 -- what was reached, judged: the answer is known where fuel is left
-
 pub towards-done : (name : coded.Plan) {budget f n : ℕ} {l : Reached} {s s′ : State} {r : List ℕ} {goal : Order} {a : RunAnswer}
     → Driven plainSwap (meant name) s r goal n budget f l s′
     → (0 < l .fuel → a ≡ judgedOn plainSwap (meant name) s′ r (bytesOf goal n) (l .swaps))
@@ -506,13 +381,6 @@ towards-done name {budget} {f} {n} {l} {s} {s′} {r} {goal} {a} d q = record {
       let w = d .sliced some in
       q some ∙ ap₂ (λ (m : ℕ) (z : State). judgedOn plainSwap (meant name) z r (bytesOf goal n) m) (w .swaps-made) (w .state-left);
 }
-
-pub answer-lost : {a b : RunAnswer} {n : ℕ} → n ≡ 0 → 0 < n → a ≡ b
-answer-lost e h = absurd (omega arith)
-
-pub reached-drivable : {t r o log : List ℕ} {l : Reached} {goal : Order} {n : ℕ} → Judgeable t r o log l goal n → (l .fuel ≡ 0 → ⊥)
-    → Drivable t r o log (l .order) goal n
-reached-drivable {t} {r} {o} {log} {l} j z = j .drivable (either-side 0 (l .fuel) (λ h. h) (λ h. absurd (z (omega arith))))
 
 pub run-ready : (number : ℕ) (t r o g log : List ℕ) {v : Verdict} → v ≡ verdictOf (runStages plainSwap number t r o g log) → v ≡ verdict.Clear
     → Runnable plainSwap (state t o log) r g

@@ -1,8 +1,1 @@
-pub mod OneSwap
-pub mod Run
 pub mod Work
-pub mod Answers
-pub mod Stores
-pub mod Theorems
-pub mod Adding
-pub mod Bounds

@@ -1,5 +1,5 @@
--- How the code of a run goes: one step, a loop of steps, and the judgement, each with fuel for so many stores.
-use Prim.Native.Nat.{ℕ, _≤_, _<_}
+-- How the code of a slice goes: one step, and a loop of steps, each with fuel for so many stores.
+use Prim.Native.Nat.{ℕ, _<_}
 use mathlib.Core.Bool.{true, cond}
 use mathlib.Core.List.{List, []}
 use mathlib.Core.Path.{_≡_}
@@ -9,32 +9,18 @@ use Rattle.orders.specs.Order.{exchangedOrder}
 use Rattle.orders.specs.Arranged.{bytesOf, Arranged}
 use Rattle.orders.specs.declared.Order.{Order}
 use Rattle.plans.specs.Plans.{Plan}
-use Rattle.plans.specs.Inversions.{left}
 use Rattle.slice_rules.specs.Slices as over
-use Rattle.check_sizes.specs.Sizes.{TableSizes}
 use Rattle.undo.specs.Stores.{State}
 use Rattle.undo.specs.Calls.{Call, cut}
 use Rattle.undo.specs.Wrote.{Spent}
-use Rattle.check_log.specs.Open.{Open}
-use Rattle.swaps.specs.Outcome.{isClear}
+use Rattle.swap_ways.specs.Ways.{isClear}
 use Rattle.swaps.specs.declared.Swapping.{Swapping}
-use Rattle.slices.specs.OneSwap.{OneSwap}
-use Rattle.slices.specs.Run.{storesOf, relay, runStores, answerOf}
-use Rattle.slices.specs.declared.RunAnswer.{RunAnswer}
+use Rattle.runs.specs.OneSwap.{OneSwap}
+use Rattle.runs.specs.Run.{storesOf, relay, runStores}
+use Rattle.runs.specs.declared.RunAnswer.{RunAnswer}
+use Rattle.slice_judging.specs.Judged.{Judgeable}
+use Rattle.slice_judging.specs.declared.Reached.{Reached}
 use Rattle.slices.specs.declared.Progress.{Progress}
-use Rattle.slices.specs.declared.Reached.{Reached}
-
--- what the code asks for: right sizes, an empty log, and two orders of n variables, of which the first is that of the lent bytes
-pub record Drivable (t r o log : List ℕ) (order goal : Order) (n : ℕ) : Type 0 where
-  pub sized : TableSizes t r
-  pub log-open : Open log
-  pub arranged : Arranged order n
-  pub towards : Arranged goal n
-  pub bytes : o ≡ bytesOf order n
-
--- what was reached can be driven on, where fuel is left
-pub record Judgeable (t r o log : List ℕ) (l : Reached) (goal : Order) (n : ℕ) : Type 0 where
-  pub drivable : 0 < l .fuel → Drivable t r o log (l .order) goal n
 
 -- the order after a swap of levels k and k + 1, if it was made
 abbrev pub progressOf : Swapping → Order → ℕ → Progress
@@ -55,10 +41,6 @@ module _ (W : OneSwap) (plan : Plan) where
     pub spent : Spent f (runStores W plan r (bytesOf goal n) budget s) s s′ (l .fuel)
     pub sliced : 0 < l .fuel → over.Sliced (relay W r) plan (bytesOf goal n) s budget (l .swaps) s′
     pub judgeable : Judgeable (s′ .table) r (s′ .order) (s′ .log) l goal n
-
-  -- the answer of a slice that made so many swaps and left this state
-  abbrev pub judgedOn : State → List ℕ → List ℕ → ℕ → RunAnswer
-  judgedOn s r g swaps = answerOf swaps (left (s .order) g) (over.judge (relay W r) plan g s)
 
 -- a call that is cut after f stores; its answer is known where they were all made, and fuel is left
 pub record Stopped (f : ℕ) (c : Call RunAnswer) (s : State) (a : RunAnswer) (s′ : State) : Type 0 where

@@ -1,146 +1,31 @@
 // Run one slice of planned swaps towards a target order.
-ghost use mathlib.Core.List.{[], _∷_};
 ghost use mathlib.Core.Path.{_≡_};
-ghost use mathlib.Core.Bool.{false};
 ghost use Prim.Native.Nat.{_+_, _<_};
 ghost use Rattle.orders.specs.Permutation.{ceiling};
 ghost use Rattle.orders.specs.Order.{Inverse};
 ghost use Rattle.orders.specs.Arranged.{bytesOf};
-ghost use Rattle.plans.specs.Numbered.{meant, noPlan};
-ghost use Rattle.check_sizes.specs.Sizes.{badSizes};
-ghost use Rattle.checks.specs.Stages.{stageAt, verdictOf};
+ghost use Rattle.plans.specs.Numbered.{meant};
+ghost use Rattle.checks.specs.Stages.{verdictOf};
 ghost use Rattle.undo.specs.Stores.{state};
-ghost use Rattle.slices.specs.OneSwap.{plainSwap};
-ghost use Rattle.slices.specs.Run.{badRunSizes, orderStages, storeStages, runStages, sliceCall, runCall, RunOutcome};
-ghost use Rattle.slices.specs.Work.{Drivable, Judgeable, progressOf, Stepped, Driven, judgedOn, Stopped};
-ghost use Rattle.slices.specs.Theorems.{Runnable};
-use checks::Refusal;
+ghost use Rattle.runs.specs.OneSwap.{plainSwap};
+ghost use Rattle.runs.specs.Run.{runStages, sliceCall, runCall, RunOutcome};
+ghost use Rattle.runs.specs.Theorems.{Runnable};
+ghost use Rattle.slice_judging.specs.Drivable.{Drivable};
+ghost use Rattle.slices.specs.Work.{progressOf, Stepped, Driven, Stopped};
 use checks::Verdict;
 use orders::Order;
 use pen::ENOUGH;
 use plans::Plan;
-use swaps::Lack;
-use swaps::Short;
+use runs::RunAnswer;
+use slice_judging::Reached;
+use swap_ways::Way;
 use swaps::Swapping;
-use swaps::Way;
-
-pub enum RunAnswer {
-    Done {
-        swaps: usize,
-        left: usize,
-    },
-    NoRoom {
-        swaps: usize,
-        left: usize,
-        lack: Lack,
-    },
-    LogShort {
-        swaps: usize,
-        left: usize,
-        short: Short,
-    },
-    Paused {
-        swaps: usize,
-        left: usize,
-    },
-    Refused(Refusal),
-}
 
 // Whether a planned swap was made, the order then, and the fuel left.
 pub struct Progress {
     pub moved: bool,
     pub order: Order,
     pub fuel: usize,
-}
-
-// What a slice reaches: the order, the swaps made of its budget, and the fuel left.
-pub struct Reached {
-    pub order: Order,
-    pub swaps: usize,
-    pub fuel: usize,
-}
-
-// ---- 1, 14, 15, 2 to 9, and 13
-
-fn bad_run_sizes(table: &[u8], roots: &[u8], order: &[u8], target: &[u8]) -> bool
-    ensures { λ b. ⌜ b ≡ badRunSizes (now (table .entry)) (now (roots .entry)) (now (order .entry)) (now (target .entry)) ⌝ }
-{
-    check_sizes::bad_sizes(table, roots, order) | !(target.len() == order.len())
-}
-
-// Checks 2 and 3, and then 4 to 9, once the sizes are known to be right.
-fn verdict_of_orders(table: &[u8], roots: &[u8], order: &[u8], target: &[u8]) -> Verdict
-    requires { ⌜ badSizes (now table) (now roots) (now order) ≡ false ⌝ }
-    ensures { λ v. ⌜ v ≡ verdictOf (orderStages plainSwap (now (table .entry)) (now (roots .entry)) (now (order .entry)) (now (target .entry))) ⌝ }
-{
-    let bad_order = check_permutation::first_bad_place(order);
-    if bad_order < order.len() {
-        return Verdict::Refused(Refusal {
-            number: 2,
-            place: bad_order,
-        });
-    }
-    let bad_target = check_permutation::first_bad_place(target);
-    if bad_target < target.len() {
-        return Verdict::Refused(Refusal {
-            number: 3,
-            place: bad_target,
-        });
-    }
-    checks::verdict_of_table(table, roots, order)
-}
-
-// All but 13.
-pub fn verdict_of_store(
-    table: &[u8],
-    roots: &[u8],
-    order: &[u8],
-    target: &[u8],
-    log: &[u8],
-) -> Verdict
-    ensures { λ v.
-        ⌜ v ≡ verdictOf (storeStages plainSwap (now (table .entry)) (now (roots .entry)) (now (order .entry)) (now (target .entry)) (now (log .entry))) ⌝ }
-{
-    if bad_run_sizes(table, roots, order, target) {
-        return Verdict::Refused(Refusal {
-            number: 1,
-            place: 0,
-        });
-    }
-    match check_log::verdict_of_open_log(log, diagrams::count_records(table), order.len()) {
-        Verdict::Refused(refusal) => Verdict::Refused(refusal),
-        Verdict::Clear => verdict_of_orders(table, roots, order, target),
-    }
-}
-
-// 13: no plan has this number.
-fn verdict_of_plan(plan: usize) -> Verdict
-    ensures { λ v. ⌜ v ≡ verdictOf (stageAt 13 plan (noPlan plan) ∷ []) ⌝ }
-{
-    if plans::no_plan(plan) {
-        return Verdict::Refused(Refusal {
-            number: 13,
-            place: plan,
-        });
-    }
-    Verdict::Clear
-}
-
-fn verdict_of_run(
-    table: &[u8],
-    roots: &[u8],
-    order: &[u8],
-    target: &[u8],
-    log: &[u8],
-    plan: usize,
-) -> Verdict
-    ensures { λ v.
-        ⌜ v ≡ verdictOf (runStages plainSwap plan (now (table .entry)) (now (roots .entry)) (now (order .entry)) (now (target .entry)) (now (log .entry))) ⌝ }
-{
-    match verdict_of_store(table, roots, order, target, log) {
-        Verdict::Refused(refusal) => Verdict::Refused(refusal),
-        Verdict::Clear => verdict_of_plan(plan),
-    }
 }
 
 // ---- one planned swap
@@ -248,59 +133,7 @@ fn drive(
     }
 }
 
-// ---- the answer, judged on the state left
-
-fn judge(
-    table: &[u8],
-    roots: &[u8],
-    order: &[u8],
-    log: &[u8],
-    current: Order,
-    goal: Order,
-    n: usize,
-    plan: Plan,
-    swaps: usize,
-) -> RunAnswer
-    requires { ⌜ Drivable (now table) (now roots) (now order) (now log) current goal n ⌝ }
-    ensures { λ a.
-        ⌜ a ≡ judgedOn plainSwap (meant plan) (state (now (table .entry)) (now (order .entry)) (now (log .entry))) (now (roots .entry))
-        (bytesOf goal n) swaps ⌝ }
-{
-    let left = plans::left(current, goal, n);
-    if plans::same(current, goal, n) {
-        return RunAnswer::Done { swaps, left };
-    }
-    let level = plans::next_level(plan, current, goal, n);
-    match swaps::ask(table, roots, order, level, swaps::entries_held(log)) {
-        Way::NoRoom(lack) => RunAnswer::NoRoom { swaps, left, lack },
-        Way::LogShort(short) => RunAnswer::LogShort { swaps, left, short },
-        Way::Clear => RunAnswer::Paused { swaps, left },
-    }
-}
-
-// Where supply is lost nobody hears the answer, and the table isn't read.
-fn answer_of(
-    table: &[u8],
-    roots: &[u8],
-    order: &[u8],
-    log: &[u8],
-    reached: Reached,
-    goal: Order,
-    n: usize,
-    plan: Plan,
-) -> RunAnswer
-    requires { ⌜ Judgeable (now table) (now roots) (now order) (now log) reached goal n ⌝ }
-    ensures { λ a.
-        ⌜ (0 < reached .fuel → a ≡ judgedOn plainSwap (meant plan) (state (now (table .entry)) (now (order .entry)) (now (log .entry)))
-        (now (roots .entry)) (bytesOf goal n) (reached .swaps)) ⌝ }
-{
-    let current = reached.order;
-    let swaps = reached.swaps;
-    if reached.fuel == 0 {
-        return RunAnswer::Paused { swaps, left: 0 };
-    }
-    judge(table, roots, order, log, current, goal, n, plan, swaps)
-}
+// ---- the slice
 
 // One slice towards a goal.
 fn run_towards(
@@ -322,7 +155,7 @@ fn run_towards(
         (state (now (table .exit)) (now (order .exit)) (now (log .exit))) ⌝ }
 {
     let reached = drive(table, roots, order, log, start, goal, n, plan, budget, fuel);
-    answer_of(table, roots, order, log, reached, goal, n, plan)
+    slice_judging::answer_of(table, roots, order, log, reached, goal, n, plan)
 }
 
 // ---- the entry
@@ -410,7 +243,7 @@ pub fn run_cut(
         (state (now (table .exit)) (now (order .exit)) (now (log .exit))) ⌝ }
 {
     let number = plan as usize;
-    let verdict = verdict_of_run(table, roots, order, target, log, number);
+    let verdict = runs::verdict_of_run(table, roots, order, target, log, number);
     run_judged(
         table,
         roots,

@@ -1,24 +1,19 @@
 -- One law for each way out of a function, over plain variables: its premises are what is known there.
 use Prim.Native.Nat.{ℕ, _+_, _-_, _*_, _≤_, _<_}
-use mathlib.Core.Bool.{Bool, true, false, cond}
-use mathlib.Core.List.{List, [], _∷_}
-use mathlib.Core.Path.{_≡_, refl, ap, ap₂, sym, _∙_, subst}
+use mathlib.Core.Bool.{Bool, true, false}
+use mathlib.Core.List.{List, _∷_}
+use mathlib.Core.Path.{_≡_, refl, ap, sym, _∙_, subst}
 use native.Mathlib.Nat.{le-refl}
 use native.Mathlib.Omega.{arith}
 use borrow.Author.Needs.{needs}
-use borrow.Author.Tests.{leb-true, le-leb, lt-leb}
-use lib.Dec.{leb}
+use borrow.Author.Tests.{le-leb, lt-leb}
 use lib.ListN.{length, take}
-use lib.Seq.{take-all, length-take-le}
-use Rattle.lists.specs.Apart.{apart}
-use Rattle.lists.specs.Count.{count-small}
-use Rattle.lists.specs.First.{first, Passed, passed-all}
-use Rattle.lists.specs.Which.{which-length}
+use Rattle.lists.specs.First.{first, passed-all}
 use Rattle.diagrams.specs.Layout.{recordSize, mostRecords, records}
 use Rattle.orders.specs.Permutation.{ceiling}
 use Rattle.check_permutation.specs.BadPlace.{badPlace}
 use Rattle.check_sizes.specs.Sizes.{TableSizes, sized, badSizes, sizes-if}
-use Rattle.checks.specs.Stages.{Stage, stageAt, refusal, verdictOf, clear-only, row-refuses, row-passes}
+use Rattle.checks.specs.Stages.{refusal, verdictOf, clear-only, row-refuses, row-passes}
 use Rattle.checks.specs.Stages.{place-refuses, place-passes, stage-refuses, stage-passes}
 use Rattle.checks.specs.Check.{orderStage, tableStages}
 use Rattle.checks.specs.declared.Refusal.{Refusal}
@@ -26,113 +21,30 @@ use Rattle.checks.specs.declared.Verdict.{Verdict}
 use Rattle.checks.specs.declared.Verdict.the-variants as verdict
 use Rattle.undo.specs.Stores.{State, state}
 use Rattle.undo.specs.Calls.{Call, cut, only, only-cut, cut-late}
-use Rattle.undo.specs.Wrote.{Spent, spent-none, spent-as}
-use Rattle.undo.specs.Log.{entrySize, mostLogRecords, changed, changes, entriesNeeded, entriesHeld, swapStores}
-use Rattle.undo.specs.Counts.{enough, swap-few}
+use Rattle.undo.specs.Wrote.{spent-none, spent-as}
+use Rattle.undo.specs.Log.{entriesNeeded, entriesHeld, swapStores}
+use Rattle.undo.specs.Counts.{enough}
 use Rattle.check_log.specs.BadLog.{LogSizes, openStages}
 use Rattle.check_log.specs.Open.{open-sizes}
-use Rattle.check_log.specs.Slots.{slots, Placeable}
+use Rattle.check_log.specs.Slots.{Placeable}
 use Rattle.commits.specs.Steps.{Writable, Committed}
 use Rattle.swap_rules.specs.Swap.{xAt, yAt}
-use Rattle.swap_records.specs.declared.Pair.{Pair}
-use Rattle.swap_reckoning.specs.declared.Counts.{Counts}
-use Rattle.swap_preparing.specs.Table as in-pair
-use Rattle.swap_preparing.specs.Table.{neededIn, freeIn, fitsIn}
-use Rattle.swap_preparing.specs.Prepared.{CountsOf, Prepared, Preparing}
-use Rattle.swaps.specs.Outcome.{lack, short, tableAfter, entriesFor, logWay, wayOf, isClear, way-clear, noLevel, storeStages, swapStages}
+use Rattle.swap_ways.specs.Ways.{tableAfter, wayOf, isClear}
+use Rattle.swap_ways.specs.Image.{image-long, image-same}
+use Rattle.swaps.specs.Outcome.{noLevel, storeStages, swapStages}
 use Rattle.swaps.specs.Outcome.{swapWay, swapAfter, swapJudged, swapCall, SwapOutcome, SwapStopped}
-use Rattle.swaps.specs.Work.{PairAt, wayBy, Reckoned, Storable, Swapped, Swappable, answerBy}
+use Rattle.swap_ways.specs.Reckoning.{Reckoned}
+use Rattle.swaps.specs.Work.{Storable, Swapped, answerBy}
 use Rattle.swaps.specs.Bytes.{length-after}
-use Rattle.swaps.specs.Entry.{swap-starts, clear-fits, clear-then, store-usable, few-stores}
-use Rattle.swaps.specs.declared.Lack.{Lack}
-use Rattle.swaps.specs.declared.Short.{Short}
-use Rattle.swaps.specs.declared.Way.{Way}
-use Rattle.swaps.specs.declared.Way.the-variants as way
+use Rattle.swap_ways.specs.Room.{clear-then}
+use Rattle.swaps.specs.Entry.{swap-starts, store-usable, few-stores}
+use Rattle.swap_ways.specs.declared.Lack.{Lack}
+use Rattle.swap_ways.specs.declared.Short.{Short}
+use Rattle.swap_ways.specs.declared.Way.{Way}
+use Rattle.swap_ways.specs.declared.Way.the-variants as way
 use Rattle.swaps.specs.declared.Swapping.{Swapping}
 use Rattle.swaps.specs.declared.SwapAnswer.{SwapAnswer}
 use Rattle.swaps.specs.declared.SwapAnswer.the-variants.{Made, NoRoom, LogShort, Refused}
-
--- ---- room, and a log that is long enough
-
-module _ (k : ℕ) (q : Counts) (log : Way) where
-  pub room-lacks : q .slots < q .needed → way.NoRoom (lack k (q .needed) (q .free)) ≡ wayBy k q log
-  unfolding wayBy
-  room-lacks h = rw (lt-leb (q .needed) (q .slots) h)
-
-  pub room-clears : {w : Way} → q .needed ≤ q .slots → w ≡ log → w ≡ wayBy k q log
-  unfolding wayBy
-  room-clears h e = rw (le-leb (q .needed) (q .slots) h) e
-
-pub log-shorts : (k entries held : ℕ) → held < entries → way.LogShort (short k entries held) ≡ logWay k entries held
-log-shorts k entries held h = rw (lt-leb entries held h)
-
-pub log-clears : (k entries held : ℕ) → entries ≤ held → way.Clear ≡ logWay k entries held
-log-clears k entries held h = rw (le-leb entries held h)
-
-pub room-logs : (k : ℕ) (q : Counts) (t u : List ℕ) (held : ℕ) {n : ℕ} {w : Way} → q .needed ≤ q .slots → n ≡ entriesNeeded t u → w ≡ logWay k n held
-    → w ≡ wayBy k q (logWay k (entriesNeeded t u) held)
-room-logs k q t u held h e l = room-clears k q (logWay k (entriesNeeded t u) held) h (l ∙ ap (λ i. logWay k i held) e)
-
--- a log with an entry for every record is never short
-few-entries : (t u : List ℕ) → entriesNeeded t u ≤ records t + 1
-unfolding entriesNeeded
-few-entries t u = omega (arith, which-length (changed t u) (records t), count-small (changed t u) (records t))
-
--- ---- the reckoning of a swap
-
-module _ {t r o : List ℕ} {k : ℕ} {p : Pair} (P : PairAt o k p) where
-  pub preparing : TableSizes t r → Preparing t r p
-  preparing z = record { sized = z; small-x = P .small-x; small-y = P .small-y }
-
-  module _ {q : Counts} (C : CountsOf t r p q) where
-    fits-is : leb (q .needed) (q .slots) ≡ fitsIn t r (xAt o k) (yAt o k)
-    fits-is = C .fit-is ∙ ap₂ (fitsIn t r) (P .is-x) (P .is-y)
-
-    lack-is : lack k (q .needed) (q .free) ≡ lack k (neededIn t (xAt o k) (yAt o k)) (freeIn t)
-    lack-is = ap₂ (lack k) (C .needed-is ∙ ap₂ (neededIn t) (P .is-x) (P .is-y)) (C .free-is)
-
-    -- where there is room the log decides
-    way-is : (held : ℕ) (log : Way) → (leb (q .needed) (q .slots) ≡ true → log ≡ logWay k (entriesFor t r o k) held) → wayBy k q log ≡ wayOf t r o held k
-    unfolding wayBy wayOf
-    way-is held log f = rw (← fits-is, ← lack-is) (go (leb (q .needed) (q .slots)) f)
-      where
-        go : (b : Bool) → (b ≡ true → log ≡ logWay k (entriesFor t r o k) held)
-            → cond b log (way.NoRoom (lack k (q .needed) (q .free))) ≡ cond b (logWay k (entriesFor t r o k) held) (way.NoRoom (lack k (q .needed) (q .free)))
-        go true f = f refl
-        go false f = refl
-
-    pub asked-room : (held : ℕ) {w : Way} → w ≡ wayBy k q way.Clear → records t < held → w ≡ wayOf t r o held k
-    asked-room held e h =
-        e ∙ way-is held way.Clear (λ b. log-clears k (entriesFor t r o k) held (omega (arith, few-entries t (tableAfter t r o k))))
-
-  pub asked : {q : Counts} {image : List ℕ} (held : ℕ) {w : Way} → Prepared t r p q image → w ≡ wayBy k q way.Clear → records t < held → w ≡ wayOf t r o held k
-  asked held A = asked-room (A .counts) held
-
-  pub reckoned : {q : Counts} {image : List ℕ} {held : ℕ} {w : Way} → Prepared t r p q image → w ≡ wayBy k q (logWay k (entriesNeeded t image) held)
-      → (start : List ℕ) → length image ≡ length start → length start ≡ length t → Reckoned t r o held k w image
-  reckoned {q} {image} {held} {w} A e start long same = record { answer = answer; image-is = λ c. image-after (fit c) }
-    where
-      image-after : leb (q .needed) (q .slots) ≡ true → image ≡ tableAfter t r o k
-      image-after b =
-          sym (take-all (length t) image (omega arith))
-          ∙ A .table (leb-true (q .needed) (q .slots) b) (omega arith)
-          ∙ ap₂ (in-pair.tableAfter t r) (P .is-x) (P .is-y)
-
-      answer : w ≡ wayOf t r o held k
-      answer = e ∙ way-is (A .counts) held (logWay k (entriesNeeded t image) held) (λ b. ap (λ u. logWay k (entriesNeeded t u) held) (image-after b))
-
-      fit : isClear w ≡ true → leb (q .needed) (q .slots) ≡ true
-      fit c = fits-is (A .counts) ∙ clear-fits t r o held k (ap isClear (sym answer) ∙ c)
-
--- the front of the work area is an image as long as the table
-pub image-long : (t r area : List ℕ) → TableSizes t r → length area ≡ recordSize * mostRecords → length t ≡ length (take (length t) area)
-image-long t r area z e = sym (length-take-le (length t) area (omega (arith, z .few-records)))
-
-pub image-same : (t r area : List ℕ) → TableSizes t r → length area ≡ recordSize * mostRecords → length (take (length t) area) ≡ length t
-image-same t r area z e = sym (image-long t r area z e)
-
-pub reckoned-way : {t r o image : List ℕ} {held k : ℕ} {w : Way} → Reckoned t r o held k w image → w ≡ wayOf t r o held k
-reckoned-way R = R .answer
 
 -- ---- the swap of the three buffers
 

@@ -31,9 +31,10 @@ use Rattle.check_log.specs.Bounds.{open-below}
 use Rattle.swap_rules.specs.Record.{isFreeNode, same}
 use Rattle.swap_rules.specs.Swap.{xAt, yAt, bothAsked, crossing, isNew, wanted, news, needed, freeCount}
 use Rattle.swap_preparing.specs.Table.{neededIn, freeIn, fitsIn}
-use Rattle.swaps.specs.Outcome.{lack, short, tableAfter, entriesFor, wayOf, noLevel, storeStages, swapStages, swapAfter, swapJudged, swapCall, numbers}
+use Rattle.swap_ways.specs.Ways.{lack, short, tableAfter, entriesFor, wayOf}
+use Rattle.swaps.specs.Outcome.{noLevel, storeStages, swapStages, swapAfter, swapJudged, swapCall, numbers}
 use Rattle.swaps.specs.Entry.{swap-starts}
-use Rattle.swaps.specs.declared.Way.the-variants as way
+use Rattle.swap_ways.specs.declared.Way.the-variants as way
 
 module _ (T : ℕ → Node) (N x y : ℕ) where
   -- each crossing record asks for two

@@ -1,21 +1,18 @@
 -- What Swap answers, and when: made where needed is not above free plus dying and the log holds the entries, no room where it is above, log short where only
 -- the log is in the way, refused where a check fails first.
-use Prim.Native.Nat.{ℕ, _+_, _-_, _*_, _≤_, _<_}
+use Prim.Native.Nat.{ℕ, _+_, _-_, _≤_, _<_}
 use native.Mathlib.Omega.{arith}
-use mathlib.Core.Bool.{Bool, true, false, _&&_}
-use mathlib.Core.List.{List, [], _∷_, _++_}
+use mathlib.Core.Bool.{Bool, true, false}
+use mathlib.Core.List.{List, [], _∷_}
 use mathlib.Core.Path.{_≡_, refl, ap, sym, _∙_}
-use lib.Dec.{leb}
-use lib.ListN.{length, getD, set}
-use borrow.Author.Tests.{leb-true, leb-false, le-leb, lt-leb}
+use lib.ListN.{length, set}
+use borrow.Author.Tests.{leb-false, lt-leb}
 use Rattle.lists.specs.Apart.{apart}
 use Rattle.lists.specs.Says.{Says}
-use Rattle.lists.specs.Truth.{and-left, and-right, and-both}
 use Rattle.orders.specs.Exchange.{exchange}
-use Rattle.diagrams.specs.Layout.{recordSize, records, rootCount, rootAt, variableAt, isFree}
+use Rattle.diagrams.specs.Layout.{records, rootCount, rootAt, variableAt, isFree}
 use Rattle.diagrams.specs.Lookup.{lookup}
 use Rattle.diagrams.specs.Value.{value}
-use Rattle.check_sizes.specs.Sizes.{badSizes, sizes-if, sizes-then}
 use Rattle.checks.specs.Stages.{Stage, AllPass, none, also, both-rows, rows-pass, FailsFirst, stageAt, refusal, verdictOf}
 use Rattle.checks.specs.Stages.{only-passed, passed-only, clear-if, clear-only, refused-if, refused-only}
 use Rattle.check_names.specs.Names.{NamedByRoot, NamedByRecord}
@@ -34,77 +31,18 @@ use Rattle.check_log.specs.BadLog.{openStages}
 use Rattle.check_log.specs.Open.{Open, open-if, open-then, open-sizes}
 use Rattle.swap_rules.specs.Swap.{xAt, yAt, crosses}
 use Rattle.swap_rules.specs.Theorem.{Cofactors}
-use Rattle.swap_preparing.specs.Table.{neededIn, freeIn, fitsIn, dyingIn, fit-by-slots}
-use Rattle.swaps.specs.Outcome.{lack, short, tableAfter, entriesFor, wayOf, isClear, way-fits, way-clear, way-lacks, way-short}
+use Rattle.swap_preparing.specs.Table.{fitsIn}
+use Rattle.swap_ways.specs.Ways.{short, tableAfter, isClear, way-clear}
+use Rattle.swap_ways.specs.Room.{Needed, Dying, clear-fits, clear-then}
 use Rattle.swaps.specs.Outcome.{storeStages, noLevel, swapStages, swapWay, swapAfter, swapJudged, swapCall, swapOf, SwapOutcome}
 use Rattle.swaps.specs.Bytes.{length-after, swap-usable, swap-root-value, swap-cofactors, swap-used, swap-frees-exactly}
 use Rattle.swaps.specs.Work.{Swappable}
-use Rattle.swaps.specs.declared.Lack.{Lack}
-use Rattle.swaps.specs.declared.Short.{Short}
-use Rattle.swaps.specs.declared.Way.{Way}
-use Rattle.swaps.specs.declared.Way.the-variants as way
+use Rattle.swap_ways.specs.declared.Lack.{Lack}
+use Rattle.swap_ways.specs.declared.Short.{Short}
+use Rattle.swap_ways.specs.declared.Way.{Way}
+use Rattle.swap_ways.specs.declared.Way.the-variants as way
 use Rattle.swaps.specs.declared.SwapAnswer.{SwapAnswer}
 use Rattle.swaps.specs.declared.SwapAnswer.the-variants.{Made, NoRoom, LogShort, Refused}
-
--- ---- room, and a log that is long enough
-
--- what the swap of levels k and k + 1 needs
-abbrev pub Needed : List ℕ → List ℕ → ℕ → ℕ
-Needed t o k = neededIn t (xAt o k) (yAt o k)
-
--- and how many records die in it
-abbrev pub Dying : List ℕ → List ℕ → List ℕ → ℕ → ℕ
-Dying t r o k = dyingIn t r (xAt o k) (yAt o k)
-
--- there is room
-abbrev pub HasRoom : List ℕ → List ℕ → List ℕ → ℕ → Type 0
-HasRoom t r o k = Needed t o k ≤ freeIn t + Dying t r o k
-
--- there is none
-abbrev pub LacksRoom : List ℕ → List ℕ → List ℕ → ℕ → Type 0
-LacksRoom t r o k = freeIn t + Dying t r o k < Needed t o k
-
-module _ (t r o : List ℕ) (held k : ℕ) where
-  abbrev fit : Bool
-  fit = fitsIn t r (xAt o k) (yAt o k)
-
-  by-slots : fit ≡ leb (Needed t o k) (freeIn t + Dying t r o k)
-  by-slots = fit-by-slots t r (xAt o k) (yAt o k)
-
-  roomy : HasRoom t r o k → fit ≡ true
-  roomy h = by-slots ∙ le-leb (Needed t o k) (freeIn t + Dying t r o k) h
-
-  room-is : fit ≡ true → HasRoom t r o k
-  room-is e = leb-true (Needed t o k) (freeIn t + Dying t r o k) (sym by-slots ∙ e)
-
-  -- nothing stands in the way exactly where there is room and the log holds the entries
-  both : isClear (wayOf t r o held k) ≡ true → (fit && leb (entriesFor t r o k) held) ≡ true
-  both e = sym (way-fits t r o held k) ∙ e
-
-  pub clear-fits : isClear (wayOf t r o held k) ≡ true → fit ≡ true
-  clear-fits e = and-left fit (leb (entriesFor t r o k) held) (both e)
-
-  pub clear-then : isClear (wayOf t r o held k) ≡ true → HasRoom t r o k × (entriesFor t r o k ≤ held)
-  clear-then e = (room-is (clear-fits e), leb-true (entriesFor t r o k) held (and-right fit (leb (entriesFor t r o k) held) (both e)))
-
-  pub clear-if-fits : HasRoom t r o k → entriesFor t r o k ≤ held → wayOf t r o held k ≡ way.Clear
-  unfolding wayOf
-  clear-if-fits h l = rw (roomy h, le-leb (entriesFor t r o k) held l)
-
-  pub lacks-if : LacksRoom t r o k → wayOf t r o held k ≡ way.NoRoom (lack k (Needed t o k) (freeIn t))
-  unfolding wayOf
-  lacks-if h = rw (by-slots ∙ lt-leb (Needed t o k) (freeIn t + Dying t r o k) h)
-
-  pub lacks-then : (l : Lack) → wayOf t r o held k ≡ way.NoRoom l → LacksRoom t r o k × (l ≡ lack k (Needed t o k) (freeIn t))
-  lacks-then l e = let (f, q) = way-lacks t r o held k l e in (leb-false (Needed t o k) (freeIn t + Dying t r o k) (sym by-slots ∙ f), q)
-
-  -- log short exactly where there is room, but more entries are needed than are held
-  pub short-if : HasRoom t r o k → held < entriesFor t r o k → wayOf t r o held k ≡ way.LogShort (short k (entriesFor t r o k) held)
-  unfolding wayOf
-  short-if h l = rw (roomy h, lt-leb (entriesFor t r o k) held l)
-
-  pub short-then : (l : Short) → wayOf t r o held k ≡ way.LogShort l → HasRoom t r o k × (held < entriesFor t r o k) × (l ≡ short k (entriesFor t r o k) held)
-  short-then l e = let (f, g, q) = way-short t r o held k l e in (room-is f, leb-false (entriesFor t r o k) held g, q)
 
 -- ---- what passes Swap's checks
 

@@ -1,48 +1,19 @@
-// Swap two neighbouring levels of a stored diagram. The reckoning reads the table, and the table afterwards is put into an image;
-// the lent buffers are written only when everything is known, by `commits`, one byte after the other.
+// Swap two neighbouring levels of a stored diagram. The table afterwards is put into an image first; the lent buffers are written only when everything is
+// known, by `commits`, one byte after the other.
 ghost use mathlib.Core.Path.{_≡_};
-ghost use Prim.Native.Nat.{_+_, _*_, _≤_, _<_};
 ghost use lib.ListN.{length};
-ghost use Rattle.diagrams.specs.Layout.{mostRecords, recordSize, records};
-ghost use Rattle.check_sizes.specs.Sizes.{TableSizes};
 ghost use Rattle.checks.specs.Stages.{verdictOf};
 ghost use Rattle.undo.specs.Stores.{state};
-ghost use Rattle.undo.specs.Log.{entriesNeeded, entriesHeld};
-ghost use Rattle.check_log.specs.BadLog.{LogSizes};
-ghost use Rattle.swap_preparing.specs.Prepared.{Preparing};
-ghost use Rattle.swaps.specs.Outcome.{logWay, wayOf, storeStages, swapStages, SwapOutcome, SwapStopped};
-ghost use Rattle.swaps.specs.Work.{PairAt, wayBy, answerBy, Reckoned, Storable, Swapped};
-ghost use Rattle.swaps.specs.declared.Way.the-variants.{Clear};
+ghost use Rattle.undo.specs.Log.{entriesHeld};
+ghost use Rattle.swap_ways.specs.Reckoning.{Reckoned};
+ghost use Rattle.swaps.specs.Outcome.{storeStages, swapStages, SwapOutcome, SwapStopped};
+ghost use Rattle.swaps.specs.Work.{answerBy, Storable, Swapped};
 use checks::Refusal;
 use checks::Verdict;
-use diagrams::MOST_RECORDS;
-use diagrams::RECORD_SIZE;
-use diagrams::Variable;
 use pen::ENOUGH;
-use pen::ENTRY_SIZE;
-use swap_reckoning::Counts;
-use swap_records::Pair;
-
-// What a swap without room tells: its upper level, the new records that it needs, and the free ones that there are.
-pub struct Lack {
-    pub level: usize,
-    pub needed: usize,
-    pub free: usize,
-}
-
-// What a swap tells whose log is short: its upper level, the entries that it needs, and those that the log holds.
-pub struct Short {
-    pub level: usize,
-    pub needed: usize,
-    pub held: usize,
-}
-
-// What stands in the way of a swap.
-pub enum Way {
-    Clear,
-    NoRoom(Lack),
-    LogShort(Short),
-}
+use swap_ways::Lack;
+use swap_ways::Short;
+use swap_ways::Way;
 
 // What stood in the way of a swap, and the fuel that its stores left.
 pub struct Swapping {
@@ -57,121 +28,7 @@ pub enum SwapAnswer {
     Refused(Refusal),
 }
 
-// ---- what stands in the way
-
-// The variables of levels level and level + 1.
-fn pair_at(order: &[u8], level: usize) -> Pair
-    requires { ⌜ level + 1 < length (now order) ⌝ }
-    ensures { λ p. ⌜ PairAt (now (order .entry)) level p ⌝ }
-{
-    let x = Variable(diagrams::wide(order[level]));
-    let y = Variable(diagrams::wide(order[level + 1]));
-    Pair { x, y }
-}
-
-// Is there room for a swap with these counts?
-fn room_by(level: usize, counts: Counts) -> Way
-    ensures { λ w. ⌜ w ≡ wayBy level counts Clear ⌝ }
-{
-    let needed = counts.needed;
-    let free = counts.free;
-    if counts.slots < needed {
-        return Way::NoRoom(Lack {
-            level,
-            needed,
-            free,
-        });
-    }
-    Way::Clear
-}
-
-// Does a log that holds so many entries hold those of a swap that has room?
-fn log_by(level: usize, needed: usize, held: usize) -> Way
-    ensures { λ w. ⌜ w ≡ logWay level needed held ⌝ }
-{
-    if held < needed {
-        return Way::LogShort(Short {
-            level,
-            needed,
-            held,
-        });
-    }
-    Way::Clear
-}
-
-// First room, then the log.
-fn way_by(table: &[u8], image: &[u8], level: usize, held: usize, counts: Counts) -> Way
-    requires { ⌜ length (now image) ≡ length (now table) ⌝ }
-    ensures { λ w. ⌜ w ≡ wayBy level counts (logWay level (entriesNeeded (now (table .entry)) (now (image .entry))) held) ⌝ }
-{
-    let needed = counts.needed;
-    let free = counts.free;
-    if counts.slots < needed {
-        return Way::NoRoom(Lack {
-            level,
-            needed,
-            free,
-        });
-    }
-    log_by(level, commits::entries_needed(table, image), held)
-}
-
-// How many entries a log holds besides its seal.
-pub fn entries_held(log: &[u8]) -> usize
-    requires { ⌜ LogSizes (now log) ⌝ }
-    ensures { λ n. ⌜ n ≡ entriesHeld (now (log .entry)) ⌝ }
-{
-    log.len() / ENTRY_SIZE - 1
-}
-
-fn no_image() -> [u8; RECORD_SIZE * MOST_RECORDS]
-    ensures { λ l. ⌜ length l ≡ recordSize * mostRecords ⌝ }
-{
-    [0u8; RECORD_SIZE * MOST_RECORDS]
-}
-
-// What stands in the way of the swap, and the table after it in an image as long as the table.
-fn reckon(
-    table: &[u8],
-    roots: &[u8],
-    order: &[u8],
-    level: usize,
-    held: usize,
-    image: &mut [u8],
-) -> Way
-    requires { ⌜ (TableSizes (now table) (now roots) × (level + 1 < length (now order))) × (length (now image) ≡ length (now table)) ⌝ }
-    ensures { λ w. ⌜ Reckoned (now (table .entry)) (now (roots .entry)) (now (order .entry)) held level w (now (image .exit)) ⌝ }
-{
-    let pair = pair_at(order, level);
-    let counts = swap_preparing::prepare(table, roots, pair, image);
-    way_by(table, image, level, held, counts)
-}
-
-// The same of a log that holds an entry for every record: only room is asked for, and no image is filled.
-fn ask_room(table: &[u8], roots: &[u8], order: &[u8], level: usize, held: usize) -> Way
-    requires { ⌜ (TableSizes (now table) (now roots) × (level + 1 < length (now order))) × (records (now table) < held) ⌝ }
-    ensures { λ w. ⌜ w ≡ wayOf (now (table .entry)) (now (roots .entry)) (now (order .entry)) held level ⌝ }
-{
-    let pair = pair_at(order, level);
-    let mut none = [0u8; 0];
-    let counts = swap_preparing::prepare(table, roots, pair, &mut none);
-    room_by(level, counts)
-}
-
-// What stands in the way of the swap of levels level and level + 1, with a log that holds so many entries?
-pub fn ask(table: &[u8], roots: &[u8], order: &[u8], level: usize, held: usize) -> Way
-    requires { ⌜ TableSizes (now table) (now roots) × (level + 1 < length (now order)) ⌝ }
-    ensures { λ w. ⌜ w ≡ wayOf (now (table .entry)) (now (roots .entry)) (now (order .entry)) held level ⌝ }
-{
-    let m = table.len();
-    if m / RECORD_SIZE < held {
-        return ask_room(table, roots, order, level, held);
-    }
-    let mut area = no_image();
-    reckon(table, roots, order, level, held, &mut area[..m])
-}
-
-// ---- swapping
+// ---- the swap of the three buffers
 
 // The swap, once it is known what stands in its way: where nothing does, the image is the table after it.
 fn swap_reckoned(
@@ -224,8 +81,8 @@ fn swap_by_image(
         ⌜ Swapped fuel (state (now (table .entry)) (now (order .entry)) (now (log .entry))) (now (roots .entry)) level a
         (state (now (table .exit)) (now (order .exit)) (now (log .exit))) ⌝ }
 {
-    let held = entries_held(log);
-    let way = reckon(table, roots, order, level, held, image);
+    let held = swap_ways::entries_held(log);
+    let way = swap_ways::reckon(table, roots, order, level, held, image);
     swap_reckoned(table, roots, order, log, level, fuel, image, way)
 }
 
@@ -244,7 +101,7 @@ pub fn swap_buffers(
         (state (now (table .exit)) (now (order .exit)) (now (log .exit))) ⌝ }
 {
     let m = table.len();
-    let mut area = no_image();
+    let mut area = swap_ways::no_image();
     swap_by_image(table, roots, order, log, level, fuel, &mut area[..m])
 }
 

@@ -2,10 +2,11 @@
 //! own list of stores; the library recovers. What it must leave is told from the
 //! buffers before and after the swap, without the model's recovery.
 
+use super::job::Job;
 use super::run::{swaps, with_swaps};
-use super::{compared, random_questions};
+use super::{compared, random_questions, sizes};
 use crate::commit::logged_swap;
-use crate::generate::busy;
+use crate::generate::{busy, spacious};
 use crate::hold::{hex, hold_library_to, Expected};
 use crate::input::Input;
 use crate::lists::{Lengths, NUMBERS};
@@ -26,6 +27,9 @@ const MOST_STEPS: usize = 500;
 /// A run is cut so many times at most.
 const MOST_CUTS: usize = 3;
 const MOST_BUDGET: usize = 12;
+/// So much is sent for each cut that few of the largest stores are cut.
+const LARGEST_ONCE_IN: usize = 100;
+const FEWEST_LARGEST: usize = 5;
 
 pub fn compare(count: u64) -> Result<Tally, String> {
     let tally = Tally::new(
@@ -44,6 +48,8 @@ pub fn compare(count: u64) -> Result<Tally, String> {
     .line("runs cut after some swaps", 100)
     .line("runs cut more than once", 100)
     .line("runs gone on with after a cut", 100);
+    let tally = sizes::lines(tally, "swaps cut", FEWEST_LARGEST);
+    let tally = sizes::lines(tally, "runs cut", FEWEST_LARGEST);
     random_questions(tally, FIRST_SEED, count, |random, tally| {
         cut_swap(random, tally)?;
         cut_run(random, tally)
@@ -57,9 +63,17 @@ struct Made {
     steps: Vec<Step>,
 }
 
+fn busy_or_largest(random: &mut Random) -> Input {
+    if random.once_in(LARGEST_ONCE_IN) {
+        spacious(random)
+    } else {
+        busy(random)
+    }
+}
+
 fn made_swap(random: &mut Random) -> Made {
     loop {
-        let input = busy(random);
+        let input = busy_or_largest(random);
         let level = random.below(input.order.len() - 1);
         let Ok(roomy) = logged_swap(&input.clone().with_enough_log(), level) else {
             continue;
@@ -107,6 +121,7 @@ fn count_swap(made: &Made, tally: &mut Tally) {
     let just_enough = log.count() == log.held();
     tally.count_if(just_enough, "swaps with just as much log as they need");
     tally.count_if(log.count() > 1, "swaps that change a record");
+    sizes::count(&made.before, "swaps cut", tally);
 }
 
 /// Before the seal nothing has happened; under it all is put back. Recovered
@@ -177,44 +192,34 @@ fn cut_recovery(
     }
 }
 
-/// What is run whole, and then cut, recovered by the library and gone on with.
-struct Job {
-    target: Vec<u8>,
-    plan: u32,
+/// The stores of a run, and behind which of them a swap has been made.
+fn steps_of(
+    job: &Job,
+    before: &Input,
+    budget: u32,
+    random: &mut Random,
+) -> (Vec<Step>, Vec<usize>) {
+    let plan = plan(job.plan).expect("only plans' numbers are drawn");
+    let mut state = before.clone();
+    let mut steps = Vec::new();
+    let mut ends = Vec::new();
+    while ends.len() < budget as usize {
+        let Some(level) = (plan.next)(&state.order, &job.target) else {
+            break;
+        };
+        let Ok(after) = logged_swap(&state, level) else {
+            break;
+        };
+        steps.extend(in_turn(swap_parts(&state, &after, level), random));
+        ends.push(steps.len());
+        state = after;
+    }
+    (steps, ends)
 }
 
-impl Job {
-    fn slice(&self, budget: u32) -> Question {
-        Question::Run {
-            target: self.target.clone(),
-            plan: self.plan,
-            budget,
-        }
-    }
-
-    /// The stores of a run, and behind which of them a swap has been made.
-    fn steps(&self, before: &Input, budget: u32, random: &mut Random) -> (Vec<Step>, Vec<usize>) {
-        let plan = plan(self.plan).expect("only plans' numbers are drawn");
-        let mut state = before.clone();
-        let mut steps = Vec::new();
-        let mut ends = Vec::new();
-        while ends.len() < budget as usize {
-            let Some(level) = (plan.next)(&state.order, &self.target) else {
-                break;
-            };
-            let Ok(after) = logged_swap(&state, level) else {
-                break;
-            };
-            steps.extend(in_turn(swap_parts(&state, &after, level), random));
-            ends.push(steps.len());
-            state = after;
-        }
-        (steps, ends)
-    }
-}
-
+/// What is run whole is then cut, recovered by the library and gone on with.
 fn cut_run(random: &mut Random, tally: &mut Tally) -> Result<(), String> {
-    let input = busy(random);
+    let input = busy_or_largest(random);
     let records = random.between(2, 40);
     let log = cleared(&input, records, random);
     let before = input.with_log(log);
@@ -237,6 +242,9 @@ fn cut_run(random: &mut Random, tally: &mut Tally) -> Result<(), String> {
         cuts += 1;
     }
     tally.count_if(cuts > 0, "runs cut");
+    if cuts > 0 {
+        sizes::count(&whole, "runs cut", tally);
+    }
     tally.count_if(cuts > 1, "runs cut more than once");
     let last = compared(&mut state, &job.slice(budget - made), random)?;
     tally.count_if(cuts > 0 && swaps(last) > 0, "runs gone on with after a cut");
@@ -260,7 +268,7 @@ fn cut_once(
     random: &mut Random,
     tally: &mut Tally,
 ) -> Result<Option<u32>, String> {
-    let (steps, ends) = job.steps(state, budget, random);
+    let (steps, ends) = steps_of(job, state, budget, random);
     if steps.is_empty() {
         return Ok(None);
     }

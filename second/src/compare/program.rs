@@ -5,12 +5,13 @@ use std::fs;
 use std::path::{Path, PathBuf};
 use std::process;
 
-use super::{name, program_labels, random_questions};
-use crate::generate::{accepted, busy, random_order};
+use super::run::any_order;
+use super::{name, program_labels, random_questions, sizes};
+use crate::generate::{accepted, busy, random_order, spacious};
 use crate::hold::groups;
 use crate::input::Input;
-use crate::labels::LABEL_BYTES;
-use crate::layout::{RECORD_BYTES, ROOT_BYTES};
+use crate::labels::{LABEL_BYTES, MOST_LABELS};
+use crate::layout::{MOST_RECORDS, MOST_ROOTS, MOST_VARIABLES, RECORD_BYTES, ROOT_BYTES};
 use crate::machine::command;
 use crate::model::Answer;
 use crate::plans::{plan, PLANS};
@@ -19,11 +20,23 @@ use crate::random::Random;
 use crate::sample::sample;
 use crate::tally::Tally;
 use crate::texts;
+use crate::wide::{wide, Wide};
 
 pub const QUESTIONS: u64 = 4_000;
 const FIRST_SEED: u64 = 20_700_000;
+const FEWEST_LARGEST: usize = 10;
+const FEWEST_WIDE: usize = 10;
+const WIDE_ONCE_IN: usize = 60;
 /// The most bytes that each of the files may have.
-const LIMITS: [usize; 7] = [32_768, 128, 32, 32, 1, 1_024, 1_024];
+const LIMITS: [usize; 7] = [
+    MOST_RECORDS * RECORD_BYTES,
+    MOST_ROOTS * ROOT_BYTES,
+    MOST_VARIABLES,
+    MOST_VARIABLES,
+    1,
+    MOST_LABELS * LABEL_BYTES,
+    MOST_LABELS * LABEL_BYTES,
+];
 
 /// Holds the program to the cases made by hand; how many there are, or the
 /// first report.
@@ -47,7 +60,9 @@ pub fn compare(program: &Path, count: u64) -> Result<Tally, String> {
         .refusals(&[1], 100)
         .refusals(&[2, 3, 4, 5, 6, 7, 8, 9], 10)
         .refusals(&[13], 100)
-        .line("refused 1 to 9, with a bad plan besides", 20);
+        .line("refused 1 to 9, with a bad plan besides", 20)
+        .line("log short", FEWEST_WIDE);
+    let tally = sizes::lines(tally, "not refused", FEWEST_LARGEST);
     let tally = (0..PLANS.len()).fold(tally, |tally, number| {
         tally.line(&format!("plan {number}"), 100)
     });
@@ -99,6 +114,7 @@ fn count_run(run: &Run, tally: &mut Tally) {
         tally.count_if(besides, "refused 1 to 9, with a bad plan besides");
         return;
     }
+    sizes::count(&run.after, "not refused", tally);
     let plan = run.plan.expect("a run without a plan is refused");
     tally.count(&format!("plan {plan}"));
     let stuck_later = matches!(run.answer, Answer::Stuck { swaps: 1.., .. });
@@ -235,13 +251,22 @@ fn random_files(random: &mut Random) -> Files {
     }
 }
 
+/// Now and then a swap that is too large for the program's log, as the first.
 fn good_files(random: &mut Random) -> Files {
-    let input = match random.below(4) {
-        0 => accepted(random).0,
-        _ => busy(random),
+    let (input, target) = if random.once_in(WIDE_ONCE_IN) {
+        let Wide { input, level } = wide(random);
+        let mut target = input.order.clone();
+        target.swap(level, level + 1);
+        (input, target)
+    } else {
+        let input = match random.below(80) {
+            0 => spacious(random),
+            1..=20 => accepted(random).0,
+            _ => busy(random),
+        };
+        let target = any_order(&input, random);
+        (input, target)
     };
-    let mut target = input.order.clone();
-    random.shuffle(&mut target);
     let plan = vec![random.below(PLANS.len()) as u8];
     let [site, factory] = program_labels::good_files(&program_labels::variables(&input), random);
     let [table, roots, order] = [input.table, input.roots, input.order].map(Some);
@@ -279,8 +304,8 @@ fn random_target(input: &Input, random: &mut Random) -> Vec<u8> {
             let level = random.below(target.len());
             target[level] = random.below(target.len() + 1) as u8;
         }
-        2 => target = random_order(random.below(35), random),
-        _ => random.shuffle(&mut target),
+        2 => target = random_order(random.below(MOST_VARIABLES + 3), random),
+        _ => target = any_order(input, random),
     }
     target
 }

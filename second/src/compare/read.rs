@@ -1,20 +1,22 @@
 //! Read, on accepted and damaged tables, with good and bad positions and
 //! inputs.
 
-use super::{compared, name, random_position, random_questions, FEWEST_OF_EACH_ANSWER};
-use crate::model::Question;
+use super::{compared, name, random_position, random_questions, sizes, FEWEST_OF_EACH_ANSWER};
+use crate::model::{Answer, Question};
 use crate::random::Random;
 use crate::sample::sample;
 use crate::tally::Tally;
 
 pub const QUESTIONS: u64 = 24_000;
 const FIRST_SEED: u64 = 20_300_000;
+const FEWEST_LARGEST: usize = 15;
 
 pub fn compare(count: u64) -> Result<Tally, String> {
     let tally = Tally::new("random reads", 20_000)
         .line("value 0", FEWEST_OF_EACH_ANSWER)
         .line("value 1", FEWEST_OF_EACH_ANSWER)
         .refusals(&[1, 2, 4, 5, 6, 7, 8, 9, 10, 11], FEWEST_OF_EACH_ANSWER);
+    let tally = sizes::lines(tally, "a value", FEWEST_LARGEST);
     random_questions(tally, FIRST_SEED, count, one)
 }
 
@@ -27,6 +29,9 @@ fn one(random: &mut Random, tally: &mut Tally) -> Result<(), String> {
     let answer = compared(&mut input, &question, random)?;
     tally.call();
     tally.count(&name(answer));
+    if let Answer::Value(_) = answer {
+        sizes::count(&input, "a value", tally);
+    }
     Ok(())
 }
 

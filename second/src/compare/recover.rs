@@ -1,12 +1,12 @@
 //! Recover, on whole and torn tables, with logs that are cleared, sealed, and
 //! bad in one way or two.
 
-use super::{compared, name, random_questions, FEWEST_OF_EACH_ANSWER};
+use super::{compared, name, random_questions, sizes, FEWEST_OF_EACH_ANSWER};
 use crate::commit::logged_swap;
 use crate::generate::{accepted, busy};
 use crate::input::Input;
 use crate::layout::{MOST_RECORDS, MOST_VARIABLES, RECORD_BYTES};
-use crate::log::{Log, Subject, LOG_RECORD_BYTES, SEALED};
+use crate::log::{Log, Subject, LOG_RECORD_BYTES, MOST_LOG_RECORDS, SEALED};
 use crate::log_faults::{any_fault, two_faults, Fault, Part, FAULTS};
 use crate::logs::{cleared, counted_entries, random_log_records, sealed};
 use crate::model::{Answer, Question};
@@ -15,10 +15,15 @@ use crate::recover::clear_seal;
 use crate::refusals::Refusal;
 use crate::steps::{in_turn, swap_parts};
 use crate::tally::Tally;
+use crate::wide::{wide, Wide};
 
 pub const QUESTIONS: u64 = 24_000;
 const FIRST_SEED: u64 = 21_100_000;
 const FEWEST: usize = 1_000;
+const FEWEST_LARGEST: usize = 10;
+/// Of the cut swaps, and of the good logs.
+const WIDE_ONCE_IN: usize = 200;
+const LONGEST_ONCE_IN: usize = 60;
 
 pub fn compare(count: u64) -> Result<Tally, String> {
     let tally = Tally::new("random recoveries", 20_000)
@@ -28,6 +33,8 @@ pub fn compare(count: u64) -> Result<Tally, String> {
         .line(NOTHING_SEALED, FEWEST)
         .line(NO_ENTRY, FEWEST_OF_EACH_ANSWER)
         .line(ALL_HELD, FEWEST_OF_EACH_ANSWER)
+        .line(LONGEST_FULL, FEWEST_LARGEST)
+        .line(CUT_WIDE, FEWEST_LARGEST)
         .line(GARBAGE_BEHIND, FEWEST_OF_EACH_ANSWER)
         .line(ONE_NUMBER, FEWEST_OF_EACH_ANSWER)
         .line(OVERLAPPING, FEWEST_OF_EACH_ANSWER)
@@ -37,6 +44,7 @@ pub fn compare(count: u64) -> Result<Tally, String> {
         .refusals(&[1, 14], FEWEST_OF_EACH_ANSWER)
         .line(BOTH, FEWEST_OF_EACH_ANSWER)
         .line(FAULT_CLEARED, FEWEST_OF_EACH_ANSWER);
+    let tally = sizes::lines(tally, PUT_BACK_SOME, FEWEST_LARGEST);
     let tally = FAULTS.iter().fold(tally, |tally, fault| {
         tally.line(&alone(fault), FEWEST_OF_EACH_ANSWER)
     });
@@ -50,7 +58,10 @@ const CUT_BEFORE_SEAL: &str = "a swap cut while it is logged";
 const CUT_SEALED: &str = "a swap cut while it is sealed";
 const NOTHING_SEALED: &str = "nothing put back, not sealed";
 const NO_ENTRY: &str = "nothing put back, sealed";
+const PUT_BACK_SOME: &str = "put back some";
 const ALL_HELD: &str = "put back as many as the log holds";
+const LONGEST_FULL: &str = "put back as many as the longest log holds";
+const CUT_WIDE: &str = "a sealed swap cut that fills the longest log";
 const GARBAGE_BEHIND: &str = "put back, with garbage behind";
 const ONE_NUMBER: &str = "put back a record and a pair of one number";
 const OVERLAPPING: &str = "put back pairs with a level in common";
@@ -83,9 +94,9 @@ fn goes_first(winner: Part, loser: Part) -> String {
 fn one(random: &mut Random, tally: &mut Tally) -> Result<(), String> {
     match random.below(100) {
         0..=19 => cut_swap(random, tally),
-        20..=37 => good_log(random, tally),
-        38..=45 => log_with_cleared_seal(random, tally),
-        46..=68 => one_fault(random, tally),
+        20..=36 => good_log(random, tally),
+        37..=43 => log_with_cleared_seal(random, tally),
+        44..=68 => one_fault(random, tally),
         69..=86 => both_faults(random, tally),
         87..=93 => wrong_sizes(random, tally),
         _ => any_bytes(random, tally),
@@ -130,6 +141,8 @@ fn cut_swap(random: &mut Random, tally: &mut Tally) -> Result<(), String> {
     } else {
         CUT_BEFORE_SEAL
     });
+    let fills_longest = Log(&after.log).count() + 1 == MOST_LOG_RECORDS;
+    tally.count_if(is_sealed && fills_longest, CUT_WIDE);
     let (_, whole) = recovered(state, None, random, tally)?;
     if whole.store() == before.store() {
         Ok(())
@@ -138,15 +151,26 @@ fn cut_swap(random: &mut Random, tally: &mut Tally) -> Result<(), String> {
     }
 }
 
-/// The input before a swap, its level, and the input after it.
+/// The input before a swap, its level, and the input after it; now and then one
+/// that fills the longest log.
 fn made_swap(random: &mut Random) -> (Input, usize, Input) {
+    let is_wide = random.once_in(WIDE_ONCE_IN);
     loop {
-        let input = busy(random);
-        let level = random.below(input.order.len() - 1);
-        let records = random.between(2, 60);
+        let (input, level, records) = if is_wide {
+            let Wide { input, level } = wide(random);
+            (input, level, MOST_LOG_RECORDS)
+        } else {
+            let input = busy(random);
+            let level = random.below(input.order.len() - 1);
+            (input, level, random.between(2, 60))
+        };
         let log = cleared(&input, records, random);
         let before = input.with_log(log);
-        if let Ok(after) = logged_swap(&before, level) {
+        let Ok(after) = logged_swap(&before, level) else {
+            continue;
+        };
+        let log = Log(&after.log);
+        if !is_wide || log.count() == log.held() {
             return (before, level, after);
         }
     }
@@ -158,10 +182,11 @@ fn any_store(random: &mut Random) -> Input {
     if random.once_in(3) {
         return accepted(random).0;
     }
-    let records = match random.below(6) {
-        0 => 0,
-        1..=4 => random.between(1, 12),
-        _ => random.between(200, 600),
+    let records = match random.below(60) {
+        0..=9 => 0,
+        10..=49 => random.between(1, 12),
+        50..=58 => random.between(200, 600),
+        _ => MOST_RECORDS,
     };
     let n = match random.below(6) {
         0 => 1,
@@ -175,8 +200,18 @@ fn any_store(random: &mut Random) -> Input {
     }
 }
 
-/// A store with a good log that is sealed.
+/// A store with a good log that is sealed; now and then as much of both as there
+/// may be.
 fn sealed_store(random: &mut Random) -> Input {
+    if random.once_in(LONGEST_ONCE_IN) {
+        let store = Input {
+            table: random.bytes(MOST_RECORDS * RECORD_BYTES),
+            order: random.bytes(MOST_VARIABLES),
+            ..Input::default()
+        };
+        let log = sealed(&store, MOST_LOG_RECORDS, random);
+        return store.with_log(log);
+    }
     let store = any_store(random);
     let records = random_log_records(random);
     let log = sealed(&store, records, random);
@@ -203,6 +238,9 @@ fn count_put_back(after: &Input, tally: &mut Tally) {
         return;
     }
     tally.count_if(log.count() == log.held(), ALL_HELD);
+    let fills_longest = log.count() + 1 == MOST_LOG_RECORDS;
+    tally.count_if(fills_longest, LONGEST_FULL);
+    sizes::count(after, PUT_BACK_SOME, tally);
     tally.count_if(behind.iter().any(|&byte| byte != 0), GARBAGE_BEHIND);
     tally.count_if(!is_order, NO_ORDER);
     count_subjects(after, tally);
@@ -301,7 +339,7 @@ fn wrong_sizes(random: &mut Random, tally: &mut Tally) -> Result<(), String> {
     match random.below(5) {
         0 => input.order.clear(),
         1 => input.order = random.bytes(MOST_VARIABLES + 1),
-        2 => input.order = vec![0; random.between(34, 300)],
+        2 => input.order = vec![0; random.between(MOST_VARIABLES + 2, 300)],
         3 => input
             .table
             .extend(vec![0; random.between(1, RECORD_BYTES - 1)]),

@@ -1,6 +1,6 @@
 //! Check, and now and then Swap and Run, on tables made for check 7.
 
-use super::{compared, name, random_questions, FEWEST_OF_EACH_ANSWER};
+use super::{compared, name, random_questions, sizes, FEWEST_OF_EACH_ANSWER};
 use crate::bucket::{bucket, sizes};
 use crate::chains::{walks, FEWEST_FOR_CHAINS, FEWEST_OF_A_CROWD, MOST_STEPS};
 use crate::input::Input;
@@ -15,6 +15,7 @@ pub const QUESTIONS: u64 = 8_000;
 const FIRST_SEED: u64 = 20_900_000;
 const FEWEST_OF_EACH_KIND: usize = 200;
 const FEWEST_FULL: usize = 30;
+const FEWEST_LARGEST: usize = 10;
 const FEWEST_FULL_GIVEN_UP: usize = 15;
 const FEWEST_FULL_OF_EACH_KIND: usize = 2;
 const FEWEST_GIVEN_UP: usize = 1_000;
@@ -38,6 +39,7 @@ pub fn compare(count: u64) -> Result<Tally, String> {
     let tally = ENTRIES_TOO.iter().fold(tally, |tally, entry| {
         both_lines(tally, entry, FEWEST_OF_EACH_KIND)
     });
+    let tally = sizes::lines(tally, NOT_7, FEWEST_LARGEST);
     random_questions(lines_of_kinds(tally), FIRST_SEED, count, one)
 }
 
@@ -91,9 +93,9 @@ fn lines_of_kinds(tally: Tally) -> Tally {
 const FREE_BETWEEN: &str = "refused 7, with free records between";
 const MORE_FREE: &str = "more free records than used ones";
 const MANY: &str = "200 records or more";
-const ALL_USED: &str = "4,096 records, none of them free";
-const FULL_WITHIN: &str = "4,096 records, 8,192 steps at most";
-const FULL_PAST: &str = "4,096 records, more steps";
+const ALL_USED: &str = "the longest table, none of it free";
+const FULL_WITHIN: &str = "the longest table, not too many steps";
+const FULL_PAST: &str = "the longest table, too many steps";
 
 const AROUND_CHAINS: [usize; 3] = [
     FEWEST_FOR_CHAINS - 1,
@@ -102,19 +104,22 @@ const AROUND_CHAINS: [usize; 3] = [
 ];
 
 const PLAINLY: &str = "under 24 records";
-const BY_CHAINS: &str = "24 or more, 8,192 steps at most";
-const NEARLY_PAST: &str = "8,064 to 8,192 steps";
-const LAST_STEP: &str = "8,192 steps";
-const STEP_TOO_MANY: &str = "8,193 steps";
-const JUST_PAST: &str = "8,193 to 8,320 steps";
+const BY_CHAINS: &str = "24 or more, not too many steps";
+const NEARLY_PAST: &str = "up to 128 steps before too many";
+const LAST_STEP: &str = "just as many steps as may be";
+const STEP_TOO_MANY: &str = "one step too many";
+const JUST_PAST: &str = "up to 128 steps too many";
 
 const GIVEN_UP: &str = "chains given up";
 const GIVEN_UP_FREE: &str = "chains given up, some free";
 const GIVEN_UP_NONE_FREE: &str = "chains given up, none free";
-const FULL_GIVEN_UP: &str = "4,096 records, given up";
+const FULL_GIVEN_UP: &str = "the longest table, given up";
 const BOTH_AFTER: &str = "chains given up, and then two alike";
 const AT_THE_POINT: &str = "refused 7 just at giving up";
 const BEFORE: &str = "refused 7 before giving up";
+
+/// No repeat, whatever the checks after that say.
+const NOT_7: &str = "not refused 7";
 
 const SWAP_TOO: &str = "Swap too";
 const RUN_TOO: &str = "Run too";
@@ -226,8 +231,9 @@ fn count_records(sample: &Sample, tally: &mut Tally) {
             sample.repeat.is_some(),
         ));
     }
-    if let Some(repeat) = &sample.repeat {
-        tally.count_if(has_free_between(&sample.input, repeat), FREE_BETWEEN);
+    match &sample.repeat {
+        Some(repeat) => tally.count_if(has_free_between(&sample.input, repeat), FREE_BETWEEN),
+        None => sizes::count(&sample.input, NOT_7, tally),
     }
 }
 

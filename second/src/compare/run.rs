@@ -1,24 +1,27 @@
 //! Run, whole and cut into slices, by every plan, with good and bad targets and
 //! logs, and with budgets of every size.
 
+use super::job::Job;
 use super::{
-    compared, counts_kept_lines, hold_to_counts_kept, name, past, random_questions, with_log,
-    KeptCounts, FEWEST_OF_EACH_ANSWER,
+    compared, counts_kept_lines, hold_to_counts_kept, name, past, random_questions, sizes,
+    with_log, KeptCounts, FEWEST_OF_EACH_ANSWER,
 };
 use crate::commit::entries;
 use crate::generate::{big, busy, random_order, roomy};
 use crate::hold::hex;
 use crate::input::Input;
 use crate::kept::{no_room_keeps, run_keeps};
-use crate::layout::MOST_RECORDS;
+use crate::layout::MOST_VARIABLES;
+use crate::log::MOST_LOG_RECORDS;
 use crate::log_kept::short_keeps;
-use crate::logs::random_log;
-use crate::model::{answer, Answer, Question};
+use crate::logs::{cleared, random_log};
+use crate::model::{answer, Answer};
 use crate::plans::{plan, Plan, PLANS};
 use crate::random::Random;
 use crate::sample::sample;
 use crate::swap::swap;
 use crate::tally::Tally;
+use crate::wide::{wide, Wide};
 
 pub const QUESTIONS: u64 = 36_000;
 const FIRST_SEED: u64 = 20_600_000;
@@ -28,6 +31,9 @@ const KEPT: KeptCounts = KeptCounts {
     fewest: 2_000,
 };
 const FEWEST_OF_EACH_PLAN: usize = 3_000;
+const FEWEST_LARGEST: usize = 20;
+const WIDE_ONCE_IN: usize = 150;
+const MANY_RECORDS: usize = 200;
 /// Some swaps before it must have had a log that was long enough for them.
 const FEWEST_SHORT_AFTER_DYING: usize = 20;
 /// A run is cut into so many slices at most.
@@ -57,12 +63,12 @@ pub fn compare(count: u64) -> Result<Tally, String> {
         .line(&after_dying("paused"), FEWEST_OF_EACH_ANSWER)
         .line(&after_dying("no room"), FEWEST_OF_EACH_ANSWER)
         .line(&after_dying("log short"), FEWEST_SHORT_AFTER_DYING)
-        .line("not refused, with 4,096 records", 20)
         .refusals(&[1, 2, 3, 4, 5, 6, 7, 8, 9, 13], FEWEST_OF_EACH_ANSWER)
         .line(LOWER_REFUSAL, FEWEST_OF_EACH_ANSWER)
         .line("swaps in all", 50_000)
         .line(SWAPS_THAT_TAKE_DYING, FEWEST);
     let answers = ["done", "paused", "no room", "log short", "refused"];
+    let tally = sizes::lines(tally, "not refused", FEWEST_LARGEST);
     let tally = counts_kept_lines(with_log::lines(tally), &KEPT, &answers);
     let tally = PLANS.iter().fold(tally, |tally, plan| {
         let of_plan = |what| of_plan(plan, what);
@@ -95,98 +101,96 @@ fn of_plan(plan: &Plan, what: &str) -> String {
 }
 
 fn one(random: &mut Random, tally: &mut Tally) -> Result<(), String> {
-    let before = match random.below(1_000) {
-        0..=579 => busy(random),
-        580..=659 => roomy(random),
-        660..=663 => big(random),
-        _ => sample(random).input,
+    let (before, job) = if random.once_in(WIDE_ONCE_IN) {
+        wide_run(random)
+    } else {
+        any_run(random)
     };
-    let job = Job {
-        target: random_target(&before.order, random),
-        plan: random_plan(random),
-        before,
-    };
-    let job = job.with_log(random);
-    let budget = random_budget(&job, random);
-    let mut after = job.before.clone();
+    let budget = random_budget(&before, &job, random);
+    let mut after = before.clone();
     let question = job.slice(budget);
     let answer = compared(&mut after, &question, random)?;
     tally.call();
     tally.count(&name(answer));
-    with_log::count(&job.before, &question, answer, tally);
-    hold_to_counts_kept(&KEPT, &job.before, &after, answer, random, tally)?;
+    with_log::count(&before, &question, answer, &after, tally);
+    hold_to_counts_kept(&KEPT, &before, &after, answer, random, tally)?;
     if let Answer::Refused(refusal) = answer {
         let besides = refusal.number != 13 && plan(job.plan).is_none();
         tally.count_if(besides, LOWER_REFUSAL);
         return Ok(());
     }
     let plan = plan(job.plan).expect("no other number is a plan's");
-    count(&job, plan, budget, answer, tally);
-    let took_dying = keeps(&job, plan, answer, &after, random)?;
+    sizes::count(&before, "not refused", tally);
+    let has_its_own = has_its_own(&before.order, &job.target, plan);
+    tally.count_if(has_its_own, &of_plan(plan, ITS_OWN));
+    count(plan, budget, answer, tally);
+    let took_dying = keeps(&before, &job.target, plan, answer, &after, random)?;
     count_dying(took_dying, answer, tally);
-    in_slices(&job, budget, answer, &after, random)
+    in_slices(&before, &job, budget, answer, &after, random)
 }
 
-/// What is run whole, and then in slices, all of them by one plan.
-struct Job {
-    before: Input,
-    target: Vec<u8>,
-    plan: u32,
+/// A swap of all that cross, alone or with another one at the top.
+fn wide_run(random: &mut Random) -> (Input, Job) {
+    let Wide { input, level } = wide(random);
+    let log = cleared(&input, MOST_LOG_RECORDS, random);
+    let mut target = input.order.clone();
+    target.swap(level, level + 1);
+    if random.coin() {
+        target.swap(0, 1);
+    }
+    let plan = random.below(PLANS.len()) as u32;
+    (input.with_log(log), Job { target, plan })
 }
 
-impl Job {
-    fn slice(&self, budget: u32) -> Question {
-        Question::Run {
-            target: self.target.clone(),
-            plan: self.plan,
-            budget,
-        }
-    }
+fn any_run(random: &mut Random) -> (Input, Job) {
+    let input = match random.below(1_000) {
+        0..=579 => busy(random),
+        580..=659 => roomy(random),
+        660..=663 => big(random),
+        _ => sample(random).input,
+    };
+    let job = Job {
+        target: random_target(&input, random),
+        plan: random_plan(random),
+    };
+    let log = random_log(&input, &needs(&input, &job), random);
+    (input.with_log(log), job)
+}
 
-    /// Long enough for all of its first swaps, or too short for some.
-    fn with_log(self, random: &mut Random) -> Job {
-        let log = random_log(&self.before, &self.needs(), random);
-        Job {
-            before: self.before.with_log(log),
-            ..self
-        }
+/// How many entries each of the first swaps needs; none where it is refused with
+/// any log.
+fn needs(input: &Input, job: &Job) -> Vec<usize> {
+    let mut state = input.clone().with_enough_log();
+    let Some(plan) = plan(job.plan) else {
+        return Vec::new();
+    };
+    if let Answer::Refused(_) = answer(&mut state, &job.slice(0)) {
+        return Vec::new();
     }
-
-    /// How many entries each of the first swaps needs; none where it is refused
-    /// with any log.
-    fn needs(&self) -> Vec<usize> {
-        let mut state = self.before.clone().with_enough_log();
-        let Some(plan) = plan(self.plan) else {
-            return Vec::new();
+    let mut needs = Vec::new();
+    while needs.len() < MOST_SOUNDED {
+        let next = (plan.next)(&state.order, &job.target);
+        let Some((level, made)) = next.and_then(|level| Some((level, swap(&state, level).ok()?)))
+        else {
+            break;
         };
-        if let Answer::Refused(_) = answer(&mut state, &self.slice(0)) {
-            return Vec::new();
-        }
-        let mut needs = Vec::new();
-        while needs.len() < MOST_SOUNDED {
-            let next = (plan.next)(&state.order, &self.target);
-            let Some((level, made)) =
-                next.and_then(|level| Some((level, swap(&state, level).ok()?)))
-            else {
-                break;
-            };
-            needs.push(entries(&state, &made.after, level).len());
-            state = made.after;
-        }
-        needs
+        needs.push(entries(&state, &made.after, level).len());
+        state = made.after;
     }
+    needs
 }
 
 /// How many of its swaps took a dying record.
 fn keeps(
-    job: &Job,
+    before: &Input,
+    target: &[u8],
     plan: &Plan,
     answer: Answer,
     after: &Input,
     random: &mut Random,
 ) -> Result<usize, String> {
     let swaps = swaps(answer);
-    let took_dying = run_keeps(&job.before, &job.target, plan, swaps, after, random)?;
+    let took_dying = run_keeps(before, target, plan, swaps, after, random)?;
     match answer {
         Answer::Stuck { lack, .. } => no_room_keeps(after, lack, random)?,
         Answer::OutOfLog { short, .. } => short_keeps(after, short)?,
@@ -207,6 +211,7 @@ fn count_dying(swaps: usize, answer: Answer, tally: &mut Tally) {
 /// else, and the buffers are the same in the end. The library is held to the
 /// model in every slice, so what is shown of the one holds for the other.
 fn in_slices(
+    before: &Input,
     job: &Job,
     budget: u32,
     answer: Answer,
@@ -214,7 +219,7 @@ fn in_slices(
     random: &mut Random,
 ) -> Result<(), String> {
     let slices = cut(budget, random);
-    let mut state = job.before.clone();
+    let mut state = before.clone();
     let mut made = 0;
     let mut last = answer;
     for &budget in &slices {
@@ -269,10 +274,9 @@ pub fn with_swaps(answer: Answer, swaps: u32) -> Answer {
 }
 
 /// Counts a run that is not refused.
-fn count(job: &Job, plan: &Plan, budget: u32, answer: Answer, tally: &mut Tally) {
+fn count(plan: &Plan, budget: u32, answer: Answer, tally: &mut Tally) {
     tally.count(&of_plan(plan, "not refused"));
     tally.count(&of_plan(plan, &name(answer)));
-    tally.count_if(has_its_own(job, plan), &of_plan(plan, ITS_OWN));
     let swaps = swaps(answer);
     for _ in 0..swaps {
         tally.count("swaps in all");
@@ -291,44 +295,58 @@ fn count(job: &Job, plan: &Plan, budget: u32, answer: Answer, tally: &mut Tally)
             tally.count_if(budget == 0, &format!("{answer} with budget 0"));
         }
     }
-    let full = job.before.store().record_count() == MOST_RECORDS;
-    tally.count_if(full, "not refused, with 4,096 records");
 }
 
-fn has_its_own(job: &Job, plan: &Plan) -> bool {
-    let first = |plan: &Plan| (plan.next)(&job.before.order, &job.target);
+fn has_its_own(order: &[u8], target: &[u8], plan: &Plan) -> bool {
+    let first = |plan: &Plan| (plan.next)(order, target);
     let alike = PLANS.iter().filter(|other| first(other) == first(plan));
     alike.count() == 1
 }
 
 /// Mostly a permutation: the order itself, near to it, its reverse or any
 /// other. Now and then none, or one of another length.
-fn random_target(order: &[u8], random: &mut Random) -> Vec<u8> {
-    let n = order.len();
-    let mut target = order.to_vec();
+fn random_target(input: &Input, random: &mut Random) -> Vec<u8> {
+    let n = input.order.len();
+    let mut target = input.order.clone();
     match random.below(20) {
         0 => {}
-        1..=4 => {
-            for _ in 0..random.below(4) {
-                exchange_neighbours(&mut target, random);
-            }
-        }
+        1..=4 => exchange_some(&mut target, 3, random),
         5 => target.reverse(),
         6 => {
             random.shuffle(&mut target);
             spoil(&mut target, random);
         }
         7 => spoil(&mut target, random),
-        8 => target = random_order([0, n + 1, n.saturating_sub(1), 33][random.below(4)], random),
-        _ => random.shuffle(&mut target),
+        8 => {
+            target = random_order(
+                [0, n + 1, n.saturating_sub(1), MOST_VARIABLES + 1][random.below(4)],
+                random,
+            )
+        }
+        _ => target = any_order(input, random),
     }
     target
 }
 
-fn exchange_neighbours(list: &mut [u8], random: &mut Random) {
-    if list.len() >= 2 {
-        let upper = random.below(list.len() - 1);
-        list.swap(upper, upper + 1);
+/// Any order of the same bytes; near to this one where each swap on the way takes
+/// long.
+pub fn any_order(input: &Input, random: &mut Random) -> Vec<u8> {
+    let mut order = input.order.clone();
+    if input.store().record_count() < MANY_RECORDS {
+        random.shuffle(&mut order);
+    } else {
+        exchange_some(&mut order, 12, random);
+    }
+    order
+}
+
+/// Neighbours, so many times at most.
+fn exchange_some(list: &mut [u8], most: usize, random: &mut Random) {
+    for _ in 0..random.between(0, most) {
+        if list.len() >= 2 {
+            let upper = random.below(list.len() - 1);
+            list.swap(upper, upper + 1);
+        }
     }
 }
 
@@ -359,8 +377,8 @@ fn random_plan(random: &mut Random) -> u32 {
 
 /// 0, small, huge, or near the number of swaps that the run can make before it
 /// is done, without room or out of log.
-fn random_budget(job: &Job, random: &mut Random) -> u32 {
-    let enough = match answer(&mut job.before.clone(), &job.slice(u32::MAX)) {
+fn random_budget(before: &Input, job: &Job, random: &mut Random) -> u32 {
+    let enough = match answer(&mut before.clone(), &job.slice(u32::MAX)) {
         Answer::Refused(_) => 3,
         other => swaps(other),
     };

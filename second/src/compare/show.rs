@@ -1,6 +1,6 @@
 //! Show, on accepted and damaged tables, with good and bad positions.
 
-use super::{compared, name, random_position, random_questions, FEWEST_OF_EACH_ANSWER};
+use super::{compared, name, random_position, random_questions, sizes, FEWEST_OF_EACH_ANSWER};
 use crate::input::Input;
 use crate::model::{answer, Answer, Question};
 use crate::random::Random;
@@ -9,6 +9,7 @@ use crate::tally::Tally;
 
 pub const QUESTIONS: u64 = 24_000;
 const FIRST_SEED: u64 = 20_400_000;
+const FEWEST_LARGEST: usize = 15;
 
 pub fn compare(count: u64) -> Result<Tally, String> {
     let tally = Tally::new("random parts shown", 20_000)
@@ -16,6 +17,7 @@ pub fn compare(count: u64) -> Result<Tally, String> {
         .line("empty", FEWEST_OF_EACH_ANSWER)
         .line("empty for a constant root", FEWEST_OF_EACH_ANSWER)
         .line("empty for no such root", FEWEST_OF_EACH_ANSWER);
+    let tally = sizes::lines(tally, "not empty", FEWEST_LARGEST);
     let tally = [1, 2, 4, 5, 6, 7, 8, 9]
         .into_iter()
         .fold(tally, |tally, number| {
@@ -32,6 +34,8 @@ fn one(random: &mut Random, tally: &mut Tally) -> Result<(), String> {
     tally.count(&name(answer));
     if let Answer::Part { length: 0, .. } = answer {
         tally.count(&reason(&mut input, position));
+    } else {
+        sizes::count(&input, "not empty", tally);
     }
     Ok(())
 }

@@ -3,9 +3,9 @@
 
 use std::ops::Range;
 
-use super::random_questions;
+use super::{random_questions, sizes};
 use crate::commit::logged_swap;
-use crate::generate::busy;
+use crate::generate::{busy, spacious};
 use crate::hold::hex;
 use crate::input::Input;
 use crate::library::{watch, Change};
@@ -21,6 +21,8 @@ pub const QUESTIONS: u64 = 1_500;
 const FIRST_SEED: u64 = 21_300_000;
 const FEWEST: usize = 500;
 const MOST_BUDGET: usize = 6;
+const LARGEST_ONCE_IN: usize = 40;
+const FEWEST_LARGEST: usize = 10;
 
 pub fn compare(count: u64) -> Result<Tally, String> {
     if !can_be_watched()? && !cfg!(target_arch = "x86_64") {
@@ -36,6 +38,9 @@ pub fn compare(count: u64) -> Result<Tally, String> {
         .line(RECOVERIES, FEWEST)
         .line(UNCHANGED, 100)
         .line(STORES, 10_000);
+    let tally = [SWAPS, RUNS].into_iter().fold(tally, |tally, what| {
+        sizes::lines(tally, what, FEWEST_LARGEST)
+    });
     random_questions(tally, FIRST_SEED, count, |random, tally| {
         tally.call();
         watched_swap(random, tally)?;
@@ -60,7 +65,11 @@ fn can_be_watched() -> Result<bool, String> {
 
 /// A random input with a log, mostly long enough.
 fn random_input(random: &mut Random) -> Input {
-    let input = busy(random);
+    let input = if random.once_in(LARGEST_ONCE_IN) {
+        spacious(random)
+    } else {
+        busy(random)
+    };
     let records = random.between(2, 50);
     let log = cleared(&input, records, random);
     input.with_log(log)
@@ -82,6 +91,7 @@ fn watched_swap(random: &mut Random, tally: &mut Tally) -> Result<(), String> {
         );
     };
     tally.count(SWAPS);
+    sizes::count(&before, SWAPS, tally);
     swap_in_turn(&before, &after, &stores, tally)?;
     watched_recovery(&before, &after, level, random, tally)
 }
@@ -133,6 +143,9 @@ fn watched_run(random: &mut Random, tally: &mut Tally) -> Result<(), String> {
         swaps += 1;
     }
     tally.count(if swaps > 0 { RUNS } else { UNCHANGED });
+    if swaps > 0 {
+        sizes::count(&before, RUNS, tally);
+    }
     unless(
         rest.is_empty(),
         "a run changes more than its swaps do",

@@ -2,27 +2,30 @@
 //! with good and bad levels, and with good and bad logs of all lengths.
 
 use super::{
-    compared, counts_kept_lines, hold_to_counts_kept, name, past, random_questions, with_log,
-    KeptCounts, FEWEST_OF_EACH_ANSWER,
+    compared, counts_kept_lines, hold_to_counts_kept, name, past, random_questions, sizes,
+    with_log, KeptCounts, FEWEST_OF_EACH_ANSWER,
 };
 use crate::commit::entries;
 use crate::generate::{accepted, big, busy, with_free};
 use crate::input::Input;
 use crate::kept::{no_room_keeps, swap_keeps};
 use crate::layout::{Reference, MOST_RECORDS, MOST_ROOTS};
-use crate::log::Log;
+use crate::log::{Log, MOST_LOG_RECORDS};
 use crate::log_kept::{log_keeps, short_keeps};
-use crate::logs::random_log;
+use crate::logs::{cleared, random_log};
 use crate::model::{answer, Answer, Question};
 use crate::random::Random;
 use crate::sample::sample;
 use crate::swap::{swap, Lack, Swap};
 use crate::tally::Tally;
+use crate::wide::{wide, Wide};
 
 pub const QUESTIONS: u64 = 36_000;
 const FIRST_SEED: u64 = 20_500_000;
 const FEWEST: usize = 1_000;
 const FEWEST_FULL_TAKEN: usize = 20;
+const FEWEST_LARGEST: usize = 50;
+const WIDE_ONCE_IN: usize = 200;
 const KEPT: KeptCounts = KeptCounts {
     once_in: 16,
     fewest: 1_000,
@@ -43,9 +46,9 @@ pub fn compare(count: u64) -> Result<Tally, String> {
         .line("no room", FEWEST)
         .line("no room for a single record", FEWEST_OF_EACH_ANSWER)
         .line("no room, some free and some dying", FEWEST_OF_EACH_ANSWER)
-        .line("not refused, with 4,096 records", FEWEST_OF_EACH_ANSWER)
-        .line(FULL_TAKEN, FEWEST_FULL_TAKEN)
+        .line(&full_taken(), FEWEST_FULL_TAKEN)
         .refusals(&[1, 2, 4, 5, 6, 7, 8, 9, 12], FEWEST_OF_EACH_ANSWER);
+    let tally = sizes::lines(tally, "not refused", FEWEST_LARGEST);
     let tally = with_log::lines(tally)
         .line(JUST_ENOUGH_LOG, FEWEST)
         .line(MORE_LOG, FEWEST);
@@ -61,35 +64,28 @@ const JUST_ONE_DYING: &str = "made with all free taken, one dying of some";
 const ALL_TAKEN: &str = "made with all free and all dying taken";
 const JUST_ENOUGH_LOG: &str = "made with just as much log as it needs";
 const MORE_LOG: &str = "made with more log than it needs";
-const FULL_TAKEN: &str = "a dying record taken, with 4,096 records";
+
+fn full_taken() -> String {
+    sizes::with_most_records("a dying record taken")
+}
 
 fn one(random: &mut Random, tally: &mut Tally) -> Result<(), String> {
-    let before = match random.below(100) {
-        0..=59 => busy(random),
-        60..=74 => accepted(random).0,
-        75..=77 => big(random),
-        _ => sample(random).input,
-    };
-    let level = random_level(before.order.len(), random);
-    let before = if random.coin() {
-        tightened(before, level, random)
+    let (before, level) = if random.once_in(WIDE_ONCE_IN) {
+        wide_swap(random)
     } else {
-        before
+        any_swap(random)
     };
-    let log = random_log(&before, &needs(&before, level), random);
-    let before = before.with_log(log);
     let question = Question::Swap { level };
     let mut after = before.clone();
     let answer = compared(&mut after, &question, random)?;
     tally.call();
     tally.count(&name(answer));
-    with_log::count(&before, &question, answer, tally);
+    with_log::count(&before, &question, answer, &after, tally);
     hold_to_counts_kept(&KEPT, &before, &after, answer, random, tally)?;
     if let Answer::Refused(_) = answer {
         return Ok(());
     }
-    let full = before.store().record_count() == MOST_RECORDS;
-    tally.count_if(full, "not refused, with 4,096 records");
+    sizes::count(&before, "not refused", tally);
     match (swap(&before, level as usize), answer) {
         (Err(lack), _) => {
             count_no_room(&before, lack, tally);
@@ -109,6 +105,30 @@ fn one(random: &mut Random, tally: &mut Tally) -> Result<(), String> {
             swap_keeps(&before, &made, random)
         }
     }
+}
+
+/// A swap for which the longest log is just enough, or too short.
+fn wide_swap(random: &mut Random) -> (Input, u32) {
+    let Wide { input, level } = wide(random);
+    let log = cleared(&input, MOST_LOG_RECORDS, random);
+    (input.with_log(log), level as u32)
+}
+
+fn any_swap(random: &mut Random) -> (Input, u32) {
+    let input = match random.below(100) {
+        0..=59 => busy(random),
+        60..=74 => accepted(random).0,
+        75..=77 => big(random),
+        _ => sample(random).input,
+    };
+    let level = random_level(input.order.len(), random);
+    let input = if random.coin() {
+        tightened(input, level, random)
+    } else {
+        input
+    };
+    let log = random_log(&input, &needs(&input, level), random);
+    (input.with_log(log), level)
 }
 
 /// How many entries the swap needs; none where it is refused or has no room.
@@ -143,7 +163,7 @@ fn count_made(before: &Input, made: &Swap, tally: &mut Tally) {
         JUST_ONE_DYING,
     );
     tally.count_if(takes_dying && free > 0 && made.freed == 0, ALL_TAKEN);
-    tally.count_if(takes_dying && full, FULL_TAKEN);
+    tally.count_if(takes_dying && full, &full_taken());
 }
 
 fn count_no_room(before: &Input, lack: Lack, tally: &mut Tally) {

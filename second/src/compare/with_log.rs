@@ -8,6 +8,7 @@ use crate::refusals::Refusal;
 use crate::tally::Tally;
 
 const FEWEST: usize = 1_000;
+const FEWEST_FULL: usize = 5;
 
 /// A tally with the lines for the log more.
 pub fn lines(tally: Tally) -> Tally {
@@ -22,7 +23,10 @@ pub fn lines(tally: Tally) -> Tally {
         .line("log short, a seal alone", FEWEST_OF_EACH_ANSWER)
         .line("no room, a seal alone", FEWEST_OF_EACH_ANSWER)
         .line(GARBAGE, FEWEST)
-        .line(LONGEST, FEWEST_OF_EACH_ANSWER);
+        .line(LONGEST, FEWEST_OF_EACH_ANSWER)
+        .line(LONGEST_FULL, FEWEST_FULL)
+        .line(LONGEST_SHORT, FEWEST_OF_EACH_ANSWER)
+        .line(LONGEST_SHORT_BY_ONE, FEWEST_FULL);
     [14, 15].into_iter().fold(tally, |tally, number| {
         tally.line(&besides(number), FEWEST_OF_EACH_ANSWER)
     })
@@ -33,14 +37,23 @@ const AT_SEAL: &str = "refused 14 at the seal";
 const AT_ENTRY: &str = "refused 14 at an entry";
 const BESIDES_1: &str = "refused 1, with a log that is refused besides";
 const GARBAGE: &str = "a swap logged over something else";
-const LONGEST: &str = "a swap logged in 4,096 records";
+const LONGEST: &str = "a swap logged in the longest log";
+const LONGEST_FULL: &str = "a swap logged that fills the longest log";
+const LONGEST_SHORT: &str = "log short, the longest log";
+const LONGEST_SHORT_BY_ONE: &str = "log short by one entry, the longest log";
 
 /// What a good log would have been answered.
 fn besides(number: u32) -> String {
     format!("refused {number}, with another refusal besides")
 }
 
-pub fn count(before: &Input, question: &Question, answered: Answer, tally: &mut Tally) {
+pub fn count(
+    before: &Input,
+    question: &Question,
+    answered: Answer,
+    after: &Input,
+    tally: &mut Tally,
+) {
     match answered {
         Answer::Refused(refusal) => count_refused(before, question, refusal, tally),
         Answer::NoRoom(_) | Answer::Stuck { .. } => {
@@ -48,16 +61,25 @@ pub fn count(before: &Input, question: &Question, answered: Answer, tally: &mut 
         }
         Answer::LogShort(short) | Answer::OutOfLog { short, .. } => {
             tally.count_if(is_seal_alone(before), "log short, a seal alone");
-            tally.count_if(short.needed == short.held + 1, "log short by one entry");
+            let by_one = short.needed == short.held + 1;
+            tally.count_if(by_one, "log short by one entry");
+            tally.count_if(is_longest(before), LONGEST_SHORT);
+            tally.count_if(by_one && is_longest(before), LONGEST_SHORT_BY_ONE);
         }
         _ => {}
     }
     if is_logged(answered) {
         let is_garbage = before.log.iter().any(|&byte| byte != 0);
         tally.count_if(is_garbage, GARBAGE);
-        let is_longest = Log(&before.log).held() + 1 == MOST_LOG_RECORDS;
-        tally.count_if(is_longest, LONGEST);
+        tally.count_if(is_longest(before), LONGEST);
+        let log = Log(&after.log);
+        let is_full = log.count() == log.held();
+        tally.count_if(is_full && is_longest(before), LONGEST_FULL);
     }
+}
+
+fn is_longest(before: &Input) -> bool {
+    Log(&before.log).held() + 1 == MOST_LOG_RECORDS
 }
 
 fn is_seal_alone(before: &Input) -> bool {

@@ -10,6 +10,7 @@ count-spec =
     (λ c. search counting)
     (λ c. search counting)
     (λ c. search counting)
+    (λ c. search counting)
     (λ c κs. search counting)
     (λ c. search counting)
     (λ c κs. search counting)

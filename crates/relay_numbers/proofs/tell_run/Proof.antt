@@ -1,5 +1,5 @@
 use borrow.Author.Needs.{needs}
-use Rattle.slices.specs.Run.{numbers}
+use Rattle.runs.specs.Run.{numbers}
 use Rattle.relay_numbers.specs.Written.{tells-apart}
 use Rattle.relay_numbers.proofs.Laws.{fits-at}
 use Rattle.relay_numbers.proofs.tell_run.Statement.{statement}

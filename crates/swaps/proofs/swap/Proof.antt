@@ -7,8 +7,8 @@ pub swap-spec : {M : Type 1} → statement M
 swap-spec =
     tie.close
     (tie.spec
-    (λ c κs. search (swap-whole, needs))
-    (λ c. search (swap-whole, needs))
-    (λ c. search (swap-whole, needs))
-    (λ c. search (swap-whole, needs))
+    (λ c κs. search needs)
+    (λ c. search needs)
+    (λ c. search needs)
+    (λ c. search needs)
     (λ c. search (swap-whole, needs)))

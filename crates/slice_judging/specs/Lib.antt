@@ -1,0 +1,2 @@
+pub mod Drivable
+pub mod Judged

@@ -1,0 +1,4 @@
+pub mod Ways
+pub mod Room
+pub mod Reckoning
+pub mod Image
