@@ -1,5 +1,7 @@
 // A look-up by hash, in two lists: the newest entry of each bucket, and the one before each entry in its bucket. Entries are 0, 1, 2 and so on, as they are
 // added; an entry stands in the lists as its number plus 1, so that 0 is none. Keys are not copied: who looks up walks a chain and compares entry by entry.
+#![tactic(auto)]
+
 ghost use Rattle.std.specs.Prelude.{cond, ◌≡◌, ◌+◌, ◌<◌, length, replicate};
 ghost use Rattle.chains.specs.Chains.{Added};
 ghost use Rattle.chains.specs.Mixed.{buckets, mixed};

@@ -1,4 +1,6 @@
 // Check 6: the first record whose low equals its high.
+#![tactic(auto)]
+
 ghost use Rattle.std.specs.Prelude.{◌≡◌};
 ghost use Rattle.lists.specs.First.{first};
 ghost use Rattle.diagrams.specs.Layout.{records, InTable};

@@ -1,4 +1,6 @@
 // Check 5: the first record with a child that is not strictly below it in the order.
+#![tactic(auto)]
+
 ghost use Rattle.std.specs.Prelude.{◌≡◌, ◌≤◌, length};
 ghost use Rattle.lists.specs.First.{first};
 ghost use Rattle.diagrams.specs.Layout.{records, InTable};

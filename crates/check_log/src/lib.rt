@@ -1,4 +1,6 @@
 // Checks 14 and 15: is a lent undo log one that a swap or a cut leaves, and is it sealed?
+#![tactic(auto)]
+
 ghost use Rattle.std.specs.Prelude.{◌≡◌, false, ◌+◌, ◌*◌, ◌≤◌, ◌<◌, length, replicate};
 ghost use Rattle.lists.specs.First.{first};
 ghost use Rattle.checks.specs.Stages.{verdict_of};

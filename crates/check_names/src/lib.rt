@@ -1,5 +1,7 @@
 // Check 9: the first used record that nobody names. Each reference that a root or a used record names is marked in one pass;
 // then each used record looks at its mark.
+#![tactic(auto)]
+
 ghost use Rattle.std.specs.Prelude.{◌≡◌, ◌+◌, ◌<◌, ◌≤◌, length, set};
 ghost use Rattle.lists.specs.First.{first};
 ghost use Rattle.lists.specs.Fold.{fold};

@@ -1,4 +1,6 @@
 // Checks 2 and 3: is an order, or a target, a permutation of its variables?
+#![tactic(auto)]
+
 ghost use Rattle.std.specs.Prelude.{◌≡◌, ◌<◌, ◌≤◌, length};
 ghost use Rattle.lists.specs.First.{first};
 ghost use Rattle.orders.specs.Permutation.{holds_at};

@@ -10,14 +10,14 @@ use super::is_same;
 use diagrams::{MOST_RECORDS, RecordNumber, wide16};
 
 // What came of the search: its end, at the first repeating record or past the last one, or too many steps along crowded chains.
-#[derive(Drop)]
+#[derive(Clone, Copy)]
 pub enum Searched {
     Ended(usize),
     Crowded,
 }
 
 // What a walk along a chain found, and how many entries it met.
-#[derive(Drop)]
+#[derive(Clone, Copy)]
 pub struct Walked {
     pub found: usize,
     pub met: usize,

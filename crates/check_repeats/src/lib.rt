@@ -1,5 +1,7 @@
 // Check 7: the first record that is the same as an earlier one. Three ways look for it: by chains, which are given up where they are too long; without a
 // hash, in their place; and by a plain search, in a table of few records or of more than the others have room for.
+#![tactic(auto)]
+
 ghost use Rattle.std.specs.Prelude.{◌≡◌};
 ghost use Rattle.lists.specs.First.{first};
 ghost use Rattle.diagrams.specs.Layout.{records, InTable};

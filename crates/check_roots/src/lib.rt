@@ -1,4 +1,6 @@
 // Check 8: the first root that is past the table or to a free record.
+#![tactic(auto)]
+
 ghost use Rattle.std.specs.Prelude.{◌≡◌};
 ghost use Rattle.lists.specs.First.{first};
 ghost use Rattle.diagrams.specs.Layout.{root_count, InRoots};

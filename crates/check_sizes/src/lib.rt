@@ -1,4 +1,6 @@
 // Check 1: are the buffers as long as a relay's can be?
+#![tactic(auto)]
+
 ghost use Rattle.std.specs.Prelude.{◌≡◌};
 ghost use Rattle.check_sizes.specs.Sizes.{bad_sizes};
 

@@ -1,5 +1,7 @@
 // The class of each record: the first record with its variable, low and high. No hash is asked, so that every table of as many records takes the same time: the
 // records are told apart by the leading bits of their keys in one pass, and by one bit more in each of the next.
+#![tactic(auto)]
+
 ghost use Rattle.std.specs.Prelude.{◌≡◌, ◌+◌, ◌<◌, ◌≤◌, length, replicate};
 ghost use Rattle.diagrams.specs.Layout.{most_records, records, InTable};
 ghost use Rattle.classes.specs.Classes.{Classes};

@@ -1,4 +1,6 @@
 // The writing part of a swap: it knows nothing of diagrams. It makes a lent table an image, exchanges two order bytes, and keeps the undo log.
+#![tactic(auto)]
+
 ghost use Rattle.std.specs.Prelude.{◌≡◌, true, [], ◌∷◌, ◌+◌, ◌*◌, ◌≤◌, ◌<◌, length, get_or};
 ghost use Rattle.lists.specs.Each.{each};
 ghost use Rattle.diagrams.specs.Layout.{InTable};
@@ -13,7 +15,7 @@ use diagrams::RECORD_SIZE;
 use pen::{ENTRY_SIZE, SEAL_MARK};
 
 // How many entries are in the log, and the fuel left.
-#[derive(Drop)]
+#[derive(Clone, Copy)]
 pub struct Logged {
     pub entries: usize,
     pub fuel: usize,

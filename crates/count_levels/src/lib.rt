@@ -1,4 +1,6 @@
 // How many combinations of inputs make a reference 1, and their share: of every record, from the lowest level up.
+#![tactic(auto)]
+
 ghost use Rattle.std.specs.Prelude.{◌≡◌, ◌+◌, ◌<◌, ◌≤◌, ◌^◌, length};
 ghost use Rattle.diagrams.specs.Layout.{most_records, records, low_at, high_at};
 ghost use Rattle.diagrams.specs.Bryant.{Vertex};
@@ -12,7 +14,7 @@ ghost use Rattle.count_levels.specs.Held.{CountableRecord, CountableVariable};
 use diagrams::{MOST_RECORDS, RecordNumber, Reference, Variable};
 
 // How many combinations, and their share of all.
-#[derive(Drop)]
+#[derive(Clone, Copy)]
 pub struct Trips {
     pub count: u64,
     pub share: f64,

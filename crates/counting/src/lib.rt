@@ -1,11 +1,13 @@
 // Count: under how many combinations of inputs a root is 1, and their share.
+#![tactic(auto)]
+
 ghost use Rattle.counting.specs.Count.{CountOutcome};
 
 use checks::{Refusal, Verdict};
 use count_shares::MOST_COUNTED;
 
 // What Count answers: how many combinations and their share of all, or a refusal.
-#[derive(Drop)]
+#[derive(Clone, Copy)]
 pub enum CountAnswer {
     Counted { count: u64, share: f64 },
     Refused(Refusal),

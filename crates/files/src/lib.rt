@@ -1,9 +1,11 @@
 // A file read into a lent buffer.
+#![tactic(auto)]
+
 ghost use Rattle.std.specs.Prelude.{◌≤◌, length};
 ghost use Rattle.files.specs.File.{Within};
 
 // What came of reading a file: so many bytes, or that standard error was told why it can't be read.
-#[derive(Drop)]
+#[derive(Clone, Copy)]
 pub enum File {
     Bytes(usize),
     Unreadable,

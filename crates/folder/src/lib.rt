@@ -1,4 +1,6 @@
 // The store in the files of the working folder: read, brought to its target, and printed. No file is written.
+#![tactic(auto)]
+
 ghost use Rattle.std.specs.Prelude.{◌≡◌};
 ghost use Rattle.program.specs.Program.{Held};
 ghost use Rattle.files.specs.File.{Within};
@@ -11,7 +13,7 @@ use libc::STDOUT_FILENO;
 use orders::Order;
 
 // How many bytes each file has, or that one of them can't be read.
-#[derive(Drop)]
+#[derive(Clone, Copy)]
 enum Files {
     Read {
         table: usize,

@@ -1,4 +1,6 @@
 // The program's one run, from the bytes of its files.
+#![tactic(auto)]
+
 ghost use Rattle.std.specs.Prelude.{◌≡◌, ◌<◌, get_or};
 ghost use Rattle.checks.specs.Stages.{verdict_of};
 ghost use Rattle.runs.specs.OneSwap.{plain_swap};

@@ -1,4 +1,6 @@
 // The label of an input: the text that the site's own list has for it, or else the factory's.
+#![tactic(auto)]
+
 ghost use Rattle.std.specs.Prelude.{◌≡◌};
 ghost use Rattle.labels.specs.Label.{bad_length, label_count, InLabels, names, first_for, text_part, label_of, LabelOutcome};
 
@@ -14,7 +16,7 @@ pub const TEXT_SIZE: usize = 15;
 pub const MOST_LABELS: usize = 64;
 
 // Which list has the label, and where in it the text stands.
-#[derive(Drop)]
+#[derive(Clone, Copy)]
 pub enum Place {
     Nowhere,
     Site(Part),

@@ -1,5 +1,7 @@
 // The listing of a store: its order, its records with the labels of their variables, and its roots, put as text into a lent list of bytes. Each
 // function puts its part at a place of the list and hands back the place after it.
+#![tactic(auto)]
+
 ghost use Rattle.std.specs.Prelude.{◌<◌, length};
 ghost use Rattle.diagrams.specs.Layout.{InRoots};
 ghost use Rattle.labels.specs.Label.{text_of};

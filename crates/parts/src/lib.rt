@@ -1,8 +1,10 @@
 // A part of a list that is lent: where it begins and ends, and the part itself, which is the caller's own memory.
+#![tactic(auto)]
+
 ghost use Rattle.parts.specs.Part.{Inside, Handed};
 
 // Where a part begins and ends.
-#[derive(Drop)]
+#[derive(Clone, Copy)]
 pub struct Part(pub usize, pub usize);
 
 // The part of the list, handed back where it stands.

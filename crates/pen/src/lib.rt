@@ -1,4 +1,6 @@
 // The one writer of the lent buffers: single-byte stores, as many as the fuel lasts for. "Cut after f stores" is the same code with fuel f.
+#![tactic(auto)]
+
 ghost use Rattle.std.specs.Prelude.{◌≡◌, [], ◌∷◌, ◌+◌, ◌≤◌, ◌<◌, length};
 ghost use Rattle.undo.specs.Stores.{poke, run};
 ghost use Rattle.undo.specs.Wrote.{Wrote};

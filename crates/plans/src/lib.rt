@@ -1,4 +1,6 @@
 // Orders on their way to a target: where the two differ, how many inversions are left, and which levels a plan swaps next.
+#![tactic(auto)]
+
 ghost use Rattle.std.specs.Prelude.{◌≡◌, false, ◌+◌, ◌*◌, ◌<◌, ◌≤◌};
 ghost use Rattle.lists.specs.First.{first};
 ghost use Rattle.lists.specs.Last.{last};
@@ -174,7 +176,7 @@ fn highest_inversion(order: Order, target: Order, n: usize) -> usize
 
 // ---- by number
 
-#[derive(Drop)]
+#[derive(Clone, Copy)]
 pub enum Plan {
     BringUp,
     SinkDown,

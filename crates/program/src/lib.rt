@@ -1,5 +1,7 @@
 // What the program prints: from the bytes of its seven files to the text, in one function. The other functions put their part of the text
 // into a lent list of bytes and hand back the place after it.
+#![tactic(auto)]
+
 ghost use Rattle.std.specs.Prelude.{◌≡◌, ◌≤◌, length};
 ghost use Rattle.labels.specs.Label.{text_of};
 ghost use Rattle.texts.specs.Put.{Put, Space, Printed};

@@ -1,4 +1,6 @@
 // Read: the value of a root under inputs.
+#![tactic(auto)]
+
 ghost use Rattle.std.specs.Prelude.{◌≡◌, ◌<◌, length};
 ghost use Rattle.lists.specs.First.{first};
 ghost use Rattle.diagrams.specs.Lookup.{lookup};
@@ -9,7 +11,7 @@ use checks::{Refusal, Verdict};
 use diagrams::{Reference, Variable};
 
 // What Read answers: 0 or 1, or a refusal.
-#[derive(Drop)]
+#[derive(Clone, Copy)]
 pub enum ReadAnswer {
     Value(u8),
     Refused(Refusal),

@@ -1,5 +1,7 @@
 // The lines of a record: what it holds, and after a used one the label of its variable, put as text into a lent list of bytes. Each function puts its
 // part at a place of the list and hands back the place after it.
+#![tactic(auto)]
+
 ghost use Rattle.diagrams.specs.Layout.{InTable};
 ghost use Rattle.labels.specs.Label.{text_of};
 ghost use Rattle.texts.specs.Put.{Put, Space};

@@ -1,4 +1,6 @@
 // Recover: where supply was lost in a swap, the old bytes of the log are put back, first entry first, and the seal is cleared.
+#![tactic(auto)]
+
 ghost use Rattle.std.specs.Prelude.{◌≡◌, ◌+◌, ◌*◌, ◌≤◌, length};
 ghost use Rattle.checks.specs.Stages.{verdict_of};
 ghost use Rattle.undo.specs.Stores.{state};
@@ -12,7 +14,7 @@ use diagrams::RECORD_SIZE;
 use pen::{ENOUGH, ENTRY_SIZE};
 
 // What Recover answers: how many entries it put back, or a refusal.
-#[derive(Drop)]
+#[derive(Clone, Copy)]
 pub enum RecoverAnswer {
     PutBack(usize),
     Refused(Refusal),

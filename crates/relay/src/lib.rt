@@ -1,4 +1,6 @@
 // The static library for C and Rust: each entry, with its answer as a list of numbers. include/relay.h declares it.
+#![tactic(auto)]
+
 ghost use Rattle.undo.specs.Stores.{state};
 ghost use Rattle.relay_numbers.specs.Written.{wrote};
 ghost use Rattle.relay.specs.Told.{CheckTold, ReadTold, ShowTold, CountTold, LabelTold, SwapTold, RunTold, RecoverTold};

@@ -1,4 +1,6 @@
 // An answer as a list of numbers, written to the front of a lent list.
+#![tactic(auto)]
+
 ghost use Rattle.std.specs.Prelude.{[], ◌∷◌, ◌≡◌, ◌<◌};
 ghost use Rattle.recovery.specs.Recover as recover;
 ghost use Rattle.swaps.specs.Outcome as swap;

@@ -1,4 +1,6 @@
 // A part of a lent list told as numbers: where it begins, and its length; for a label, before them, which list it is a part of.
+#![tactic(auto)]
+
 ghost use Rattle.std.specs.Prelude.{◌∷◌, ◌≡◌};
 ghost use Rattle.labels.specs.Label as label;
 ghost use Rattle.labels.specs.Label.{part_in};

@@ -1,4 +1,6 @@
 // Run: its answer, and its checks. What it answers and leaves is in the definitions beside it; the slice itself is in `slices`.
+#![tactic(auto)]
+
 ghost use Rattle.std.specs.Prelude.{[], ◌∷◌, ◌≡◌, false};
 ghost use Rattle.plans.specs.Numbered.{no_plan};
 ghost use Rattle.check_sizes.specs.Sizes.{bad_sizes};
@@ -9,7 +11,7 @@ ghost use Rattle.runs.specs.Run.{bad_run_sizes, order_stages, store_stages, run_
 use checks::{Refusal, Verdict};
 use swap_ways::{Lack, Short};
 
-#[derive(Drop)]
+#[derive(Clone, Copy)]
 pub enum RunAnswer {
     Done {
         swaps: usize,

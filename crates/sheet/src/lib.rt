@@ -1,1 +1,2 @@
 // The proved cases of the bench sheet, in specs/. No code.
+#![tactic(auto)]

@@ -1,4 +1,6 @@
 // Show: a root's record, as a part of the caller's table.
+#![tactic(auto)]
+
 ghost use Rattle.std.specs.Prelude.{◌≡◌};
 ghost use Rattle.showing.specs.Show.{part_of, ShowOutcome};
 

@@ -1,4 +1,6 @@
 // The answer of a slice, judged on the state that it left.
+#![tactic(auto)]
+
 ghost use Rattle.std.specs.Prelude.{◌≡◌, ◌<◌};
 ghost use Rattle.orders.specs.Arranged.{bytes_of};
 ghost use Rattle.plans.specs.Numbered.{meant};
@@ -13,7 +15,7 @@ use runs::RunAnswer;
 use swap_ways::Way;
 
 // What a slice reaches: the order, the swaps made of its budget, and the fuel left.
-#[derive(Drop)]
+#[derive(Clone, Copy)]
 pub struct Reached {
     pub order: Order,
     pub swaps: usize,

@@ -1,1 +1,2 @@
 // Slices of planned swaps, over any state, whatever may stand in a swap's way, and any plan: definitions and theorems, in specs/. No code.
+#![tactic(auto)]

@@ -1,4 +1,6 @@
 // Run one slice of planned swaps towards a target order.
+#![tactic(auto)]
+
 ghost use Rattle.std.specs.Prelude.{◌≡◌, ◌+◌, ◌<◌};
 ghost use Rattle.orders.specs.Permutation.{ceiling};
 ghost use Rattle.orders.specs.Order.{Inverse};
@@ -22,7 +24,7 @@ use swap_ways::Way;
 use swaps::Swapping;
 
 // Whether a planned swap was made, the order then, and the fuel left.
-#[derive(Drop)]
+#[derive(Clone, Copy)]
 pub struct Progress {
     pub moved: bool,
     pub order: Order,

@@ -1,4 +1,6 @@
 // How often the roots and the records of other variables than x name each reference, by which it is told what dies.
+#![tactic(auto)]
+
 ghost use Rattle.std.specs.Prelude.{◌≡◌, ◌+◌, ◌*◌, ◌<◌, length};
 ghost use Rattle.lists.specs.Fold.{fold};
 ghost use Rattle.diagrams.specs.Layout.{records, root_count, InTable};

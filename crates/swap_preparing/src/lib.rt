@@ -1,4 +1,6 @@
 // A swap is prepared: it is reckoned, and where it is to be made and has room, the table afterwards goes to an image. The table is only read.
+#![tactic(auto)]
+
 ghost use Rattle.std.specs.Prelude.{◌≤◌, length};
 ghost use Rattle.check_sizes.specs.Sizes.{TableSizes};
 ghost use Rattle.swap_reckoning.specs.Reckoned.{TurnRoom, WorkRoom, Sorted, FreeSlots};

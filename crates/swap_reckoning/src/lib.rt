@@ -1,5 +1,7 @@
 // The reckoning of one swap: what its crossing records ask for, and where each asked for is found.
 // It reads the table and fills lists that the caller lends.
+#![tactic(auto)]
+
 ghost use Rattle.std.specs.Prelude.{◌≡◌};
 ghost use Rattle.check_sizes.specs.Sizes.{TableSizes};
 ghost use Rattle.swap_reckoning.specs.Searching.{with_needed, with_slots};
@@ -11,7 +13,7 @@ use swap_records::{Pair, collect};
 pub mod news;
 
 // How many records cross, stand, are new (0 until that is reckoned) and are free, and how many slots are listed for new ones.
-#[derive(Drop)]
+#[derive(Clone, Copy)]
 pub struct Counts {
     pub crossing: usize,
     pub standing: usize,

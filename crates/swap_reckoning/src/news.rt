@@ -84,7 +84,7 @@ fn slot(slots: &[u16], count: usize, j: usize) -> Reference
 }
 
 // The reference X(a, b), and how many records are new then.
-#[derive(Drop)]
+#[derive(Clone, Copy)]
 pub struct Settled {
     pub reference: Reference,
     pub needed: usize,
@@ -129,7 +129,7 @@ fn note(
 }
 
 // What a crossing record becomes, and how many records are new then.
-#[derive(Drop)]
+#[derive(Clone, Copy)]
 pub struct Crossed {
     pub low: Reference,
     pub high: Reference,

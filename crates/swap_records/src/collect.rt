@@ -46,7 +46,7 @@ pub fn collect_free(table: &[u8], list: &mut [u16]) -> usize
 }
 
 // How many of the x records cross, and how many stand.
-#[derive(Drop)]
+#[derive(Clone, Copy)]
 pub struct Split {
     pub crossing: usize,
     pub standing: usize,

@@ -1,4 +1,6 @@
 // What a record is to this swap of the levels of x and y.
+#![tactic(auto)]
+
 ghost use Rattle.std.specs.Prelude.{◌≡◌, false, ◌<◌};
 ghost use Rattle.diagrams.specs.Layout.{is_free, InTable};
 ghost use Rattle.diagrams.specs.Node.{ref};
@@ -14,7 +16,7 @@ pub mod collect;
 pub mod pairs;
 
 // The variables of the two levels that change places: x is the upper one, y the lower.
-#[derive(Drop)]
+#[derive(Clone, Copy)]
 pub struct Pair {
     pub x: Variable,
     pub y: Variable,
@@ -73,7 +75,7 @@ fn grandchild(table: &[u8], y: Variable, high: bool, c: Reference) -> Reference
 }
 
 // The four grandchildren of a crossing record, first digit by x, second by y.
-#[derive(Drop)]
+#[derive(Clone, Copy)]
 pub struct Grandchildren {
     pub f00: Reference,
     pub f01: Reference,

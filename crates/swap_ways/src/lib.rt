@@ -1,4 +1,6 @@
 // What stands in the way of a swap of two neighbouring levels, and the table after it in an image.
+#![tactic(auto)]
+
 ghost use Rattle.std.specs.Prelude.{◌≡◌, ◌+◌, ◌*◌, ◌<◌, length};
 ghost use Rattle.diagrams.specs.Layout.{most_records, record_size, records};
 ghost use Rattle.check_sizes.specs.Sizes.{TableSizes};
@@ -13,7 +15,7 @@ use swap_reckoning::Counts;
 use swap_records::Pair;
 
 // What a swap without room tells: its upper level, the new records that it needs, and the free ones that there are.
-#[derive(Drop)]
+#[derive(Clone, Copy)]
 pub struct Lack {
     pub level: usize,
     pub needed: usize,
@@ -21,7 +23,7 @@ pub struct Lack {
 }
 
 // What a swap tells whose log is short: its upper level, the entries that it needs, and those that the log holds.
-#[derive(Drop)]
+#[derive(Clone, Copy)]
 pub struct Short {
     pub level: usize,
     pub needed: usize,
@@ -29,7 +31,7 @@ pub struct Short {
 }
 
 // What stands in the way of a swap.
-#[derive(Drop)]
+#[derive(Clone, Copy)]
 pub enum Way {
     Clear,
     NoRoom(Lack),

@@ -1,5 +1,7 @@
 // Swap two neighbouring levels of a stored diagram. The table afterwards is put into an image first; the lent buffers are written only when everything is
 // known, by `commits`, one byte after the other.
+#![tactic(auto)]
+
 ghost use Rattle.std.specs.Prelude.{◌≡◌, length};
 ghost use Rattle.checks.specs.Stages.{verdict_of};
 ghost use Rattle.undo.specs.Stores.{state};
@@ -13,13 +15,13 @@ use pen::ENOUGH;
 use swap_ways::{Lack, Short, Way};
 
 // What stood in the way of a swap, and the fuel that its stores left.
-#[derive(Drop)]
+#[derive(Clone, Copy)]
 pub struct Swapping {
     pub way: Way,
     pub fuel: usize,
 }
 
-#[derive(Drop)]
+#[derive(Clone, Copy)]
 pub enum SwapAnswer {
     Made,
     NoRoom(Lack),

@@ -1,4 +1,6 @@
 // Words and numbers put into a lent list of bytes. Each function puts its text at a place of the list and hands back the place after it.
+#![tactic(auto)]
+
 ghost use Rattle.std.specs.Prelude.{◌≡◌, ◌<◌, length};
 ghost use Rattle.texts.specs.Text.{decimal, numbered, is_zero, first_zero, before_zero};
 ghost use Rattle.texts.specs.Put.{Put, Space};
