@@ -5,18 +5,18 @@ use lib.ListN.{length}
 use Rattle.files.proofs.read_whole.Statement.{statement}
 use Rattle.files.proofs.read_whole.Tie as tie
 
-abbrev invariant-loop : tie.invariant-loop
-invariant-loop fd path buffer₀ done₀ buffer done = (done ≤ length buffer) × (length buffer ≡ length buffer₀)
+abbrev invariant-loop-done : tie.invariant-loop-done
+invariant-loop-done fd path buffer₀ done₀ buffer done = (done ≤ length buffer) × (length buffer ≡ length buffer₀)
 
-abbrev decreases-loop : tie.decreases-loop
-decreases-loop fd path buffer₀ done₀ buffer done = length buffer₀ - done
+abbrev decreases-loop-done : tie.decreases-loop-done
+decreases-loop-done fd path buffer₀ done₀ buffer done = length buffer₀ - done
 
 pub read_whole_spec : {M : Type 1} → statement M
 read_whole_spec =
     tie.close
     (tie.spec
-    invariant-loop
-    decreases-loop
+    invariant-loop-done
+    decreases-loop-done
     (λ c. search rules)
     (λ c. search rules)
     (λ c. search rules)

@@ -6,18 +6,18 @@ use Rattle.record_lines.specs.Text.{record_text}
 use Rattle.listing.proofs.put_records.Statement.{statement}
 use Rattle.listing.proofs.put_records.Tie as tie
 
-abbrev invariant-loop : tie.invariant-loop
-invariant-loop out₀ at table site factory n next₀ i₀ out next i = Turns (record_text (text_of site factory) table) n out₀ at i out next
+abbrev invariant-loop-i : tie.invariant-loop-i
+invariant-loop-i out₀ at table site factory n next₀ i₀ out next i = Turns (record_text (text_of site factory) table) n out₀ at i out next
 
-abbrev decreases-loop : tie.decreases-loop
-decreases-loop out₀ at table site factory n next₀ i₀ out next i = n - i
+abbrev decreases-loop-i : tie.decreases-loop-i
+decreases-loop-i out₀ at table site factory n next₀ i₀ out next i = n - i
 
 pub put_records_spec : {M : Type 1} → statement M
 put_records_spec =
     tie.close
     (tie.spec
-    invariant-loop
-    decreases-loop
+    invariant-loop-i
+    decreases-loop-i
     (λ c κs. search rules)
     (λ c. search turns)
     (λ c κs. (search rules, search turns))

@@ -5,18 +5,18 @@ use Rattle.listing.specs.Text.{root_text}
 use Rattle.listing.proofs.put_references.Statement.{statement}
 use Rattle.listing.proofs.put_references.Tie as tie
 
-abbrev invariant-loop : tie.invariant-loop
-invariant-loop out₀ at roots n next₀ k₀ out next k = Turns (root_text roots) n out₀ at k out next
+abbrev invariant-loop-k : tie.invariant-loop-k
+invariant-loop-k out₀ at roots n next₀ k₀ out next k = Turns (root_text roots) n out₀ at k out next
 
-abbrev decreases-loop : tie.decreases-loop
-decreases-loop out₀ at roots n next₀ k₀ out next k = n - k
+abbrev decreases-loop-k : tie.decreases-loop-k
+decreases-loop-k out₀ at roots n next₀ k₀ out next k = n - k
 
 pub put_references_spec : {M : Type 1} → statement M
 put_references_spec =
     tie.close
     (tie.spec
-    invariant-loop
-    decreases-loop
+    invariant-loop-k
+    decreases-loop-k
     (λ c κs. search rules)
     (λ c. search turns)
     (λ c κs. (search rules, search turns))

@@ -20,4 +20,4 @@ take_turns_spec =
     (λ c. search turning)
     (λ c. search turning)
     (λ c. search turning)
-    (λ c. turns_all c.before.loop.invariant.0 (omega arith)))
+    (λ c. turns_all c.before.loop-k.invariant.0 (omega arith)))

@@ -19,4 +19,4 @@ collect_x_spec =
     (λ c. search splitting)
     (λ c. search splitting)
     (λ c. search splitting)
-    (λ c. split_ends c.before.loop.invariant (omega arith)))
+    (λ c. split_ends c.before.loop-i.invariant (omega arith)))
