@@ -13,8 +13,8 @@ begin_spec =
     (λ c. search rules)
     (λ c κs. let s = c.before.before in (
       search rules,
-      passing_begins s.no_slots.ensures (omega arith)
-          (λ k h. lead_small _ s.before.before.shared-slice-known.given k),
+      passing_begins s.no_slots-slot.ensures (omega arith)
+          (λ k h. lead_small _ s.before.before.shared_slice_known-1.given k),
     ))
     (λ c. search rules)
     (λ c. search rules))

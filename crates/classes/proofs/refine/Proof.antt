@@ -13,7 +13,7 @@ refine_spec =
     (λ c κs. search rules)
     (λ c. search rules)
     (λ c κs. let s = c.before.before in
-    (search rules, passing_begins s.no_slots.ensures (omega arith) (place_small _ _ _ s.before.before.before.requires.1 (omega arith))))
+    (search rules, passing_begins s.no_slots-slot.ensures (omega arith) (place_small _ _ _ s.before.before.before.requires.1 (omega arith))))
     (λ c. search rules)
     (λ c. let s = c.before.before.before in
     classes_alike (place_alike _ _ _ s.before.before.before.before.before.before.requires.1) s.pass.ensures))

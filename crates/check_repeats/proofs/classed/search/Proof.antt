@@ -13,4 +13,4 @@ search_spec =
     (λ c. search rules)
     (λ c κs. search rules)
     (λ c. let s = c.before.before.before in
-    c.first_late.ensures ∙ late_repeats _ s.before.before.shared-slice-known.given _ s.classes.ensures))
+    c.first_late.ensures ∙ late_repeats _ s.before.before.shared_slice_known-1.given _ s.classes.ensures))
