@@ -1,5 +1,7 @@
-use Rattle.chains.specs.Chains.{chaining}
+use Rattle.std.proofs.Common.{refl, rules}
+use Rattle.std.proofs.Math.ListN.{length-replicate}
+use Rattle.chains.specs.Chains.{chained_none}
 use Rattle.check_repeats.proofs.chained.search.Goals as goal
 
 pub search_in-requires : goal.search_in-requires
-search_in-requires c = search chaining
+search_in-requires c = (c.requires, chained_none c.no_heads-head.ensures refl)
