@@ -1,12 +1,12 @@
 //! Links the static library `relay`, from the folder RELAY_LIB_DIR or else
-//! from ../target/staticlib. A relative folder is taken from bench/.
+//! from ../crates/relay/out. A relative folder is taken from bench/.
 
 use std::env;
 use std::path::Path;
 
 fn main() {
     let program = env::var("CARGO_MANIFEST_DIR").expect("cargo gives CARGO_MANIFEST_DIR");
-    let folder = env::var("RELAY_LIB_DIR").unwrap_or("../target/staticlib".to_string());
+    let folder = env::var("RELAY_LIB_DIR").unwrap_or("../crates/relay/out".to_string());
     let folder = Path::new(&program).join(folder);
     let archive = folder.join("librelay.a");
 
@@ -17,7 +17,7 @@ fn main() {
         println!("cargo:rustc-link-lib=static=relay");
     } else {
         println!(
-            "cargo::error=no librelay.a in {}: run `rt staticlib relay` first",
+            "cargo::error=no librelay.a in {}: run `rt lib` in crates/relay first",
             folder.display()
         );
     }

@@ -968,7 +968,7 @@ static void *cases(void *wrong)
     return NULL;
 }
 
-/* A thread's stack is bounded on every machine, in an emulator too. */
+/* A thread's stack is bounded on every machine. */
 int main(void)
 {
     int wrong = 1;

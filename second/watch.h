@@ -26,8 +26,8 @@ static size_t watched_length;
 static struct change changes[WATCH_MOST];
 static uint32_t change_count, store_count;
 
-/* The processor's flags at a signal: number 17 of the registers, which begin 40 bytes on (Linux on x86-64). Named here, since the headers may
- * be another machine's. Where the trap flag is set, it stops after one instruction. */
+/* The processor's flags at a signal: number 17 of the registers, which begin 40 bytes on (Linux on x86-64). Named here, since the headers of
+ * plain C99 don't name them. Where the trap flag is set, it stops after one instruction. */
 #define REGISTERS 40
 #define FLAGS 17
 #define TRAP UINT64_C(0x100)

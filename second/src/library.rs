@@ -3,12 +3,11 @@
 
 use std::io::{self, BufReader, BufWriter, Read, Write};
 use std::path::Path;
-use std::process::{Child, ChildStdin, ChildStdout, Stdio};
+use std::process::{Child, ChildStdin, ChildStdout, Command, Stdio};
 use std::sync::{Mutex, OnceLock};
 
 use crate::input::Input;
 use crate::lists::{Lengths, Lists, NUMBERS};
-use crate::machine::command;
 use crate::model::Question;
 
 /// The one that everybody asks.
@@ -23,7 +22,7 @@ struct Library {
 
 /// Starts the program that asks the library.
 pub fn start(program: &Path) -> Result<(), String> {
-    let mut process = command(program)
+    let mut process = Command::new(program)
         .stdin(Stdio::piped())
         .stdout(Stdio::piped())
         .spawn()

@@ -38,7 +38,6 @@ mod log_kept;
 mod log_refusals;
 mod log_sheet;
 mod logs;
-mod machine;
 mod model;
 mod plans;
 mod possible;
@@ -72,8 +71,7 @@ use crate::tally::Tally;
 const USAGE: &str = "\
 usage: compare library ASK [check | read | show | swap | run | count | repeats | label | recover | cuts | stores] [number of random questions]
        compare program TRIP [number of random runs]
-ASK: the program of ask.c, linked with the library; without a word after it: all eleven.
-RELAY_RUN names x86_64/run where these programs can't be run by themselves.";
+ASK: the program of ask.c, linked with the library; without a word after it: all eleven.";
 
 /// A comparison that a word asks for.
 struct Part {

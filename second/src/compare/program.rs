@@ -3,7 +3,7 @@
 use std::env;
 use std::fs;
 use std::path::{Path, PathBuf};
-use std::process;
+use std::process::{self, Command};
 
 use super::run::any_order;
 use super::{name, program_labels, random_questions, sizes};
@@ -12,7 +12,6 @@ use crate::hold::groups;
 use crate::input::Input;
 use crate::labels::{LABEL_BYTES, MOST_LABELS};
 use crate::layout::{MOST_RECORDS, MOST_ROOTS, MOST_VARIABLES, RECORD_BYTES, ROOT_BYTES};
-use crate::machine::command;
 use crate::model::Answer;
 use crate::plans::{plan, PLANS};
 use crate::printed::{Files, Run, NAMES, PLAN, ROOTS};
@@ -153,7 +152,7 @@ fn hold_program_to(
     text: &[u8],
 ) -> Result<(), String> {
     folder.fill(files)?;
-    let output = command(program)
+    let output = Command::new(program)
         .current_dir(&folder.path)
         .output()
         .map_err(|error| format!("{} does not run: {error}", program.display()))?;

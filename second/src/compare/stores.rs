@@ -25,12 +25,6 @@ const LARGEST_ONCE_IN: usize = 40;
 const FEWEST_LARGEST: usize = 10;
 
 pub fn compare(count: u64) -> Result<Tally, String> {
-    if !can_be_watched()? && !cfg!(target_arch = "x86_64") {
-        return Ok(Tally::new(
-            "stores, which nobody can watch in this emulator",
-            0,
-        ));
-    }
     let tally = Tally::new("swaps, runs and recoveries watched", FEWEST)
         .line(SWAPS, FEWEST)
         .line(RUNS, FEWEST)
@@ -54,14 +48,6 @@ const SWAPS_OF_RUNS: &str = "swaps made in runs";
 const RECOVERIES: &str = "recoveries of a torn store";
 const UNCHANGED: &str = "swaps and runs that change nothing";
 const STORES: &str = "stores after which a cut was tried";
-
-/// Is anything seen of a swap that exchanges two levels and no more? On the
-/// processor itself it must be.
-fn can_be_watched() -> Result<bool, String> {
-    let mut input = Input::free(0, vec![0, 1]).with_enough_log();
-    let changes = watch(&mut input, &Question::Swap { level: 0 })?;
-    Ok(!changes.is_empty())
-}
 
 /// A random input with a log, mostly long enough.
 fn random_input(random: &mut Random) -> Input {
