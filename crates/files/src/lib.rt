@@ -2,7 +2,7 @@
 #![tactic(auto)]
 
 ghost use Rattle.std.specs.Prelude.{◌≡◌, ◌≤◌, length};
-ghost use Rattle.files.specs.File.{Within};
+ghost use Rattle.files.specs.File.{Within, ReadInto};
 
 use std::io::{ErrorKind, Read};
 use std::rt::Files;
@@ -24,8 +24,10 @@ fn unreadable<R: Eprint>(rt: &R, path: &str, error: io::Error) -> File
 }
 
 // Reads until the buffer is full or the file ends.
+#[tactic(auto, using(crate::proofs::Reading::read_on))]
 fn read_whole<R: Eprint, F: Read>(rt: &R, file: &mut F, path: &str, buffer: &mut [u8]) -> File
-    ensures { Within result buffer.new }
+    ensures within { Within result buffer.new }
+    ensures bytes { ReadInto result (F.remaining file.old) (F.remaining file.new) buffer.new }
 {
     let mut done = 0;
     while done < buffer.len() {
