@@ -1,6 +1,6 @@
 // The program: the store of the working folder, brought to its target and printed.
 #![tactic(auto)]
 
-fn main() {
-    folder::bring_to_target();
+fn main(rt: HostRuntime) {
+    folder::bring_to_target(&rt);
 }
