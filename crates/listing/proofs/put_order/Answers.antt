@@ -1,4 +1,3 @@
-use borrow.Author.Rules.{rules}
 use Rattle.texts.specs.Put.{putting}
 use Rattle.listing.specs.Text.{order_line}
 use Rattle.listing.proofs.put_order.Goals as goal

@@ -1,4 +1,3 @@
-use borrow.Author.Rules.{rules}
 use Rattle.listing.specs.Text.{root_text}
 use Rattle.listing.proofs.put_root.Goals as goal
 

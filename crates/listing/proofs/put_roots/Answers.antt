@@ -1,4 +1,3 @@
-use borrow.Author.Rules.{rules}
 use Rattle.texts.specs.Put.{putting}
 use Rattle.listing.specs.Text.{roots_line}
 use Rattle.listing.proofs.put_roots.Goals as goal

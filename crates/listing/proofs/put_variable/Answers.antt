@@ -1,4 +1,3 @@
-use borrow.Author.Rules.{rules}
 use Rattle.listing.specs.Text.{variable_text}
 use Rattle.listing.proofs.put_variable.Goals as goal
 

@@ -1,4 +1,3 @@
-use borrow.Author.Rules.{rules}
 use Rattle.record_lines.proofs.Laws.{content}
 use Rattle.record_lines.proofs.put_content.Goals as goal
 

@@ -1,4 +1,3 @@
-use borrow.Author.Rules.{rules}
 use Rattle.texts.specs.Put.{putting}
 use Rattle.record_lines.specs.Text.{label_line}
 use Rattle.record_lines.proofs.put_label_line.Goals as goal

@@ -7,11 +7,11 @@ pub reckon-counts-requires : goal.reckon-counts-requires
 reckon-counts-requires c = search (sorted_again, rules)
 
 pub returns-then-counts : goal.returns-then-counts
-returns-then-counts c = 
+returns-then-counts c =
     no_room c.reckon-counts.ensures.0 c.all_slots-start.ensures c.requires.0.0.1 c.reckon-counts.ensures.1 (search rules)
 
 pub fill-requires : goal.fill-requires
-fill-requires c = 
+fill-requires c =
     fillable c.reckon-counts.ensures.0 c.all_slots-start.ensures c.requires.0.0.1 c.reckon-counts.ensures.1 c.requires.0.1.1
     (search rules) (search rules)
 

@@ -1,5 +1,4 @@
-use Rattle.std.proofs.Common.{refl, rules}
-use Rattle.std.proofs.Math.ListN.{length-replicate}
+use Rattle.std.proofs.Common.{refl}
 use Rattle.chains.specs.Chains.{chained_none}
 use Rattle.check_repeats.proofs.chained.search.Goals as goal
 

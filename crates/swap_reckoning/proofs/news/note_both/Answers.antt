@@ -1,4 +1,3 @@
-use Rattle.swap_reckoning.specs.Reckoned.{answered}
 use Rattle.swap_reckoning.proofs.Laws.{asking}
 use Rattle.swap_reckoning.proofs.news.note_both.Goals as goal
 
