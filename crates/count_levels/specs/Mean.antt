@@ -12,7 +12,7 @@ use Rattle.diagrams.specs.Bryant.{Ordered}
 use Rattle.diagrams.specs.Levels.{child_below}
 use Rattle.diagrams.specs.Value.{value}
 use Rattle.diagrams.specs.Falls.{value_terminal, value_step, value_agrees}
-use Rattle.diagrams.specs.Reduced.{look_ends}
+use Rattle.diagrams.proofs.Reduced.{look_ends}
 use Rattle.orders.specs.Permutation.{Permutation, level_of, inside_level}
 use Rattle.count_shares.specs.Share.{most_counted}
 use Rattle.reading.specs.Read.{input_of}

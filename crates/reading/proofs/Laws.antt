@@ -16,7 +16,7 @@ use Rattle.diagrams.specs.Node.{free, pick, at, ref}
 use Rattle.diagrams.specs.References.{names_record, from_two, number_small, not_inside, naming}
 use Rattle.diagrams.specs.Decode.{decode}
 use Rattle.diagrams.specs.Lookup.{lookup, node_of, free_of, past_of}
-use Rattle.diagrams.specs.Reduced.{look_ends}
+use Rattle.diagrams.proofs.Reduced.{look_ends}
 use Rattle.diagrams.specs.Value.{chosen, met, value}
 use Rattle.diagrams.specs.Falls.{value_terminal}
 use Rattle.checks.specs.Stages.{refusal, stage_at, verdict_of, row_refuses, row_passes, place_refuses, place_passes}

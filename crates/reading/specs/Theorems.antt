@@ -12,7 +12,7 @@ use Rattle.diagrams.specs.Node.{Constant, at}
 use Rattle.diagrams.specs.Decode.{decode}
 use Rattle.diagrams.specs.Lookup.{lookup}
 use Rattle.diagrams.specs.Bryant.{Vertex}
-use Rattle.diagrams.specs.Reduced.{look_ends}
+use Rattle.diagrams.proofs.Reduced.{look_ends}
 use Rattle.diagrams.specs.Value.{met, value, Value}
 use Rattle.diagrams.specs.Falls.{meets_terminal, value_is, value_unique}
 use Rattle.checks.specs.Stages.{refusal, stage_at, verdict_of, AllPass, FailsFirst, none, also, both_rows, only_passed, passed_only}

@@ -15,7 +15,7 @@ use Rattle.diagrams.specs.Node.{free, pick, at, ref}
 use Rattle.diagrams.specs.Decode.{decode}
 use Rattle.diagrams.specs.Lookup.{lookup, node_of, free_of, past_of, Stored, record_at, stored}
 use Rattle.diagrams.specs.References.{names_record, not_inside}
-use Rattle.diagrams.specs.Reduced.{look_ends}
+use Rattle.diagrams.proofs.Reduced.{look_ends}
 use Rattle.swap_rules.specs.Record.{low_of, high_of, is_of, of_true}
 use Rattle.swap_rules.specs.Swap.{grandchild, crosses}
 use Rattle.swap_records.specs.Kinds.{of_at, crosses_at, stands_at, child_at, of_is}

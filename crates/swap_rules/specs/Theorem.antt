@@ -10,7 +10,7 @@ use Rattle.diagrams.specs.Node.{Node, free, node, pick, Constant, at, ref, look}
 use Rattle.diagrams.specs.Edition.{Edition, plain, seen, Rooted, seen_terminal}
 use Rattle.diagrams.specs.Bryant.{Vertex, Bryant}
 use Rattle.diagrams.specs.Diagram.{Named, Diagram}
-use Rattle.diagrams.specs.Reduced.{bryant_of, diagram_of, look_ends}
+use Rattle.diagrams.proofs.Reduced.{bryant_of, diagram_of, look_ends}
 use Rattle.diagrams.specs.Levels.{nonterminal, free_node}
 use Rattle.diagrams.specs.Value.{value, with_input, Value}
 use Rattle.diagrams.specs.Falls.{value_unique, value_is}

@@ -16,7 +16,7 @@ use Rattle.diagrams.specs.Lookup.{length_decode, roots_of, lookup, node_of, leng
 use Rattle.diagrams.specs.Bryant.{Among, Vertex}
 use Rattle.diagrams.specs.Levels.{free_node}
 use Rattle.diagrams.specs.Diagram.{Named, Diagram}
-use Rattle.diagrams.specs.Reduced.{diagram_of, look_ends}
+use Rattle.diagrams.proofs.Reduced.{diagram_of, look_ends}
 use Rattle.diagrams.specs.Value.{value, Value}
 use Rattle.checks.specs.Check.{used, check_of}
 use Rattle.check_names.specs.Names.{NamedByRoot, NamedByRecord}
