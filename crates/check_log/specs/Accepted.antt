@@ -23,7 +23,8 @@ use Rattle.undo.specs.Log.{changed, changes, record_entry, pair_entry, entries_o
 use Rattle.undo.specs.Sealed.{Sound, sealed_log, length_sealed, entry_byte, entry_back, seal_byte, seal_set, seal_counts}
 use Rattle.undo.specs.Changes.{entry_sound, entries_count}
 use Rattle.check_log.specs.BadLog.{bad_log_size, nonzero, some_byte, bad_seal, malformed, past, repeats, bad_entry, entry_stages, log_stages}
-use Rattle.undo.specs.Survives.{Ready, Quiet, Undone, quiet, torn, torn_log, fits, recoveries, recoveries_undone, recoveries_quiet, cut_early, cut_late}
+use Rattle.undo.specs.Survives.{Ready, Quiet, recoveries}
+use Rattle.undo.proofs.Survives.{Undone, quiet, torn, torn_log, fits, recoveries_undone, recoveries_quiet, cut_early, cut_late}
 
 -- ---- tests that fail
 
@@ -153,9 +154,9 @@ module _ (log : List ℕ) (numbers : List ℕ) (level : ℕ) (t o : List ℕ) (N
   unfolding bad_entry past repeats
   record_good k h =
       rw (
-        formed k in-es (record_entry t i) is refl (le-ltb 1 0 (omega arith)) last (λ c. absurd (other c)),
-        kind_is k in-es (record_entry t i) is,
-        number_is k in-es (record_entry t i) is,
+        formed k in_es (record_entry t i) is refl (le-ltb 1 0 (omega arith)) last (λ c. absurd (other c)),
+        kind_is k in_es (record_entry t i) is,
+        number_is k in_es (record_entry t i) is,
         lt-leb N i (below i (at_mem numbers k 0 h)),
       )
       (none_there _ k earlier)
@@ -163,8 +164,8 @@ module _ (log : List ℕ) (numbers : List ℕ) (level : ℕ) (t o : List ℕ) (N
       i : ℕ
       i = get_or numbers k 0
 
-      in-es : k < length es
-      in-es = omega (arith, entries_count numbers level t o)
+      in_es : k < length es
+      in_es = omega (arith, entries_count numbers level t o)
 
       is : get_or es k d ≡ record_entry t i
       is = entry_of_lem numbers level t o k d h
@@ -182,7 +183,8 @@ module _ (log : List ℕ) (numbers : List ℕ) (level : ℕ) (t o : List ℕ) (N
       earlier : (j : ℕ) → j < k → (eqb (kind_at L j) 0 && eqb (number_at L j) i) ≡ false
       earlier j l =
           rw (
-            number_is j (omega (arith, entries_count numbers level t o)) (record_entry t (get_or numbers j 0)) (entry_of_lem numbers level t o j d (omega arith)),
+            number_is j (omega (arith, entries_count numbers level t o)) (record_entry t (get_or numbers j 0)) (entry_of_lem numbers level t o j d
+                (omega arith)),
             ne_eqb (get_or numbers j 0) i (λ e. differ (apart_at numbers j k 0 apart (omega arith) h e)),
           )
           (off (eqb (kind_at L j) 0))
@@ -199,16 +201,16 @@ module _ (log : List ℕ) (numbers : List ℕ) (level : ℕ) (t o : List ℕ) (N
   unfolding bad_entry past repeats
   pair_good =
       rw (
-        formed (length numbers) in-es (pair_entry o level) is refl (le-ltb 1 1 (omega arith)) last (λ c. six),
-        kind_is (length numbers) in-es (pair_entry o level) is,
-        number_is (length numbers) in-es (pair_entry o level) is,
+        formed (length numbers) in_es (pair_entry o level) is refl (le-ltb 1 1 (omega arith)) last (λ c. six),
+        kind_is (length numbers) in_es (pair_entry o level) is,
+        number_is (length numbers) in_es (pair_entry o level) is,
         ne_eqb 1 0 (λ z. omega arith),
         lt-leb (n - 1) level (omega arith),
       )
       (none_there _ (length numbers) earlier)
     where
-      in-es : length numbers < length es
-      in-es = omega (arith, entries_count numbers level t o)
+      in_es : length numbers < length es
+      in_es = omega (arith, entries_count numbers level t o)
 
       is : get_or es (length numbers) d ≡ pair_entry o level
       is = entry_last numbers level t o d

@@ -17,7 +17,8 @@ module _ (log : List ℕ) (N n m : ℕ) (more : List Stage) (big : most_log_reco
   pub log_below : (j x : ℕ) → ((j y : ℕ) → FailsFirst more j y → (j < m) × (y < m)) → FailsFirst (log_stages log N n ++ more) j x → (j < m) × (x < m)
   unfolding log_stages entry_stages
   log_below _ x rest (here l d p) = (omega arith, omega arith)
-  log_below _ x rest (later size (here l d p)) = (omega arith, omega (arith, (log_sizes log (passed_only 0 size)).few, (log_sizes log (passed_only 0 size)).some))
+  log_below _ x rest (later size (here l d p)) =
+      (omega arith, omega (arith, (log_sizes log (passed_only 0 size)).few, (log_sizes log (passed_only 0 size)).some))
   log_below _ x rest (later size (later seal (here l d p))) =
       (omega arith, omega (arith, counted_few log (passed_only _ seal), (log_sizes log (passed_only 0 size)).few))
   log_below j x rest (later size (later seal (later entries f))) = rest j x f

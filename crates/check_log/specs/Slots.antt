@@ -36,8 +36,8 @@ is_marked l x = eqb (get_or l x 0) 1
 
 pub record Placed (kind number N n : ℕ) : Type 0 where
   pub known : kind ≤ 1
-  pub in-table-lem : kind ≡ 0 → number < N
-  pub in-order-lem : (kind ≡ 0 → ⊥) → number < n - 1
+  pub in_table_lem : kind ≡ 0 → number < N
+  pub in_order_lem : (kind ≡ 0 → ⊥) → number < n - 1
 
 pub placed : (log : List ℕ) (N n k : ℕ) → misplaced log N n k ≡ false → Placed (kind_at log k) (number_at log k) N n
 unfolding misplaced malformed past
@@ -51,8 +51,8 @@ placed log N n k e =
     let formed = or_neither (first || other) last (or_neither (first || other || last) six both.0).0 in
     record {
       known = ltb-false 1 (kind_at log k) (or_neither first other formed.0).1;
-      in-table-lem = λ z. leb-false N (number_at log k) (rw (eq-eqb (kind_at log k) 0 z) at both.1);
-      in-order-lem = λ z. leb-false (n - 1) (number_at log k) (rw (ne_eqb (kind_at log k) 0 z) at both.1);
+      in_table_lem = λ z. leb-false N (number_at log k) (rw (eq-eqb (kind_at log k) 0 z) at both.1);
+      in_order_lem = λ z. leb-false (n - 1) (number_at log k) (rw (ne_eqb (kind_at log k) 0 z) at both.1);
     }
 
 -- two such entries are of one thing exactly where they have one slot
@@ -74,11 +74,11 @@ same_slot N n j k a b p q = go (eqb j 0) (eqb k 0) refl refl
     go true false e f =
         let z : j ≡ 0 = eqb-true j 0 e in
         let w : k ≡ 0 → ⊥ = eqb-false k 0 f in
-        rw (ne_eqb j k (λ u. w (sym u ∙ z)), ne_eqb a (N + b) (λ u. omega (arith, p.in-table-lem z)))
+        rw (ne_eqb j k (λ u. w (sym u ∙ z)), ne_eqb a (N + b) (λ u. omega (arith, p.in_table_lem z)))
     go false true e f =
         let z : k ≡ 0 = eqb-true k 0 f in
         let w : j ≡ 0 → ⊥ = eqb-false j 0 e in
-        rw (ne_eqb j k (λ u. w (u ∙ z)), ne_eqb (N + a) b (λ u. omega (arith, q.in-table-lem z)))
+        rw (ne_eqb j k (λ u. w (u ∙ z)), ne_eqb (N + a) b (λ u. omega (arith, q.in_table_lem z)))
     go false false e f = rw (eq-eqb j k (other j p.known (eqb-false j 0 e) ∙ sym (other k q.known (eqb-false k 0 f)))) shifted
 
 -- ---- marking
@@ -112,8 +112,8 @@ slot_small log N n k h e = go (eqb (kind_at log k) 0) refl
     p = placed log N n k e
 
     go : (b : Bool) → eqb (kind_at log k) 0 ≡ b → cond b (number_at log k) (N + number_at log k) < slots
-    go true q = omega (arith, p.in-table-lem (eqb-true (kind_at log k) 0 q))
-    go false q = omega (arith, p.in-order-lem (eqb-false (kind_at log k) 0 q))
+    go true q = omega (arith, p.in_table_lem (eqb-true (kind_at log k) 0 q))
+    go false q = omega (arith, p.in_order_lem (eqb-false (kind_at log k) 0 q))
 
 -- the mark at its slot says whether an entry repeats an earlier one
 module _ (log : List ℕ) (N n c k : ℕ) (l : List ℕ) (room : N + n ≤ slots) (m : Marked log N n c k l) (e : misplaced log N n k ≡ false) where

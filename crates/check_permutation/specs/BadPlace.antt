@@ -16,9 +16,9 @@ place_says o k = search says
 
 pub permutation_if : (o : List ℕ) → Passed (bad_place o) (length o) → Permutation o
 permutation_if o h = record {
-  in-range = λ k l. lt_of_not-le (λ e. nowhere (place_says o) h k l (inl e));
+  in_range = λ k l. lt_of_not-le (λ e. nowhere (place_says o) h k l (inl e));
   distinct = λ j k l m e. nowhere (place_says o) h k m (inr (record { index = j; below = l; holds = e }));
 }
 
 pub permutation_then : (o : List ℕ) → Permutation o → Passed (bad_place o) (length o)
-permutation_then o h = passes (place_says o) (λ k l. ⊎_elim (not-le_of_lt (h.in-range k l)) (λ w. h.distinct w.index k w.below l w.holds))
+permutation_then o h = passes (place_says o) (λ k l. ⊎_elim (not-le_of_lt (h.in_range k l)) (λ w. h.distinct w.index k w.below l w.holds))

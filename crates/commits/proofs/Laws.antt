@@ -257,7 +257,8 @@ table_stores u (i ∷ numbers) =
 exchanged : (o : List ℕ) (k : ℕ) → k + 1 < length o → (get_or o (k + 1) 0 ≡ get_or (exchange o k) k 0) × (get_or o k 0 ≡ get_or (exchange o k) (k + 1) 0)
 unfolding exchange
 exchanged o k h = (
-  sym (get_or-set_other (set o k (get_or o (k + 1) 0)) (k + 1) k (get_or o k 0) 0 (λ e. omega arith) ∙ get_or-set_same o k (get_or o (k + 1) 0) 0 (omega arith)),
+  sym (get_or-set_other (set o k (get_or o (k + 1) 0)) (k + 1) k (get_or o k 0) 0 (λ e. omega arith) ∙ get_or-set_same o k (get_or o (k + 1) 0) 0
+      (omega arith)),
   sym (get_or-set_same (set o k (get_or o (k + 1) 0)) (k + 1) (get_or o k 0) 0 (rw (length-set o k (get_or o (k + 1) 0)) h)),
 )
 
@@ -266,7 +267,8 @@ unfolding each entry_stores run
 pair_stores_of k p = refl
 
 new_stores : (u o : List ℕ) (k : ℕ) (numbers : List ℕ) → k + 1 < length o
-    → into in_table (each (record_pokes u) numbers) ++ into in_order (run k (get_or o (k + 1) 0 ∷ get_or o k 0 ∷ [])) ≡ putting (entries_of numbers k u (exchange o k))
+    → into in_table (each (record_pokes u) numbers) ++ into in_order (run k (get_or o (k + 1) 0 ∷ get_or o k 0 ∷ [])) ≡ putting (entries_of numbers k u
+    (exchange o k))
 unfolding putting entries_of
 new_stores u o k numbers h =
     ap₂ (λ (x : List Store) (y : List Store). x ++ y) (table_stores u numbers)

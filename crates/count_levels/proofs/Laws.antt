@@ -21,7 +21,7 @@ use Rattle.diagrams.specs.Lookup.{lookup, Stored, record_at, stored, node_of}
 use Rattle.diagrams.specs.Bryant.{Vertex}
 use Rattle.orders.specs.Permutation.{level_of, level_of_at, on_level}
 use Rattle.count_shares.specs.Share.{most_counted, share, two}
-use Rattle.count_shares.specs.Exact.{share_none, share_all, share_mean}
+use Rattle.count_shares.proofs.Exact.{share_none, share_all, share_mean}
 use Rattle.count_levels.specs.Mean.{trips_by, Countable, trips_constant, trips_most, trips_mean}
 use Rattle.count_levels.specs.Held.{held, held_count, held_share, Whole, RightCount, RightShare, Right, RightFrom, Settled}
 use Rattle.count_levels.specs.Held.{CountableRecord, CountableVariable}
@@ -235,7 +235,7 @@ module _ (t o : List ℕ) {done : ℕ} {counts : List ℕ} {shares : List Float}
 -- level k, whose variable is v
 module _ (t o : List ℕ) (k : ℕ) {v : ℕ} (c : Countable t o) (inside : k < length o) (is-v : v ≡ get_or o k 0) where
   pub level_variable : CountableVariable t o v
-  level_variable = (c, rw is-v (c.order.in-range k inside))
+  level_variable = (c, rw is-v (c.order.in_range k inside))
 
   at_level : level_of o v ≡ k
   at_level = ap (level_of o) is-v ∙ level_of_at o k c.order inside

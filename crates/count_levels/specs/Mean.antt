@@ -2,7 +2,8 @@
 use Rattle.std.specs.Prelude.{ℕ, ◌+◌, ◌*◌, ◌^◌, ◌≤◌, ◌<◌, Bool, List, ◌≡◌, refl, eqb, length, set}
 use Rattle.std.proofs.Math.Bool.{true, false}
 use Rattle.std.proofs.Common.{ap, sym, ◌∙◌, arith, get_or-set_same, get_or-set_other}
-use Rattle.lists.specs.Combinations.{how_many, all_or_none, many_if, many_most, many_choice}
+use Rattle.lists.specs.Combinations.{how_many, all_or_none}
+use Rattle.lists.proofs.Combinations.{many_if, many_most, many_choice}
 use Rattle.lists.specs.Count.{bit, bit_small, bit_one}
 use Rattle.diagrams.specs.Layout.{most_records, records}
 use Rattle.diagrams.specs.Node.{node, pick, Constant, at}
@@ -53,15 +54,15 @@ module _ (t o : List ℕ) (c : Countable t o) (x : ℕ) {v l h : ℕ} (is : look
   abbrev n : ℕ
   n = length o
 
-  in-range : v < n
-  in-range = inside_level o v c.order (c.graph.indexed x is)
+  in_range : v < n
+  in_range = inside_level o v c.order (c.graph.indexed x is)
 
   -- with input v set, the record's value is that of its low or its high
   goes : (side : Bool) (b : ℕ) → eqb b 1 ≡ side → (inputs : List ℕ) → length inputs ≡ n
       → value (lookup t) (input_of (set inputs v b)) n x ≡ value (lookup t) (input_of (set inputs v b)) n (pick side l h)
   goes side b e inputs long =
       value_step (look_ends (at (decode t))) c.graph (input_of (set inputs v b)) x is
-      ∙ ap (λ (s : Bool). value (lookup t) (input_of (set inputs v b)) n (pick s l h)) (input_set inputs v b (omega (arith, in-range)) ∙ e)
+      ∙ ap (λ (s : Bool). value (lookup t) (input_of (set inputs v b)) n (pick s l h)) (input_set inputs v b (omega (arith, in_range)) ∙ e)
 
   -- below the record nothing asks for input v
   deaf : (side : Bool) (inputs : List ℕ)
@@ -74,5 +75,5 @@ module _ (t o : List ℕ) (c : Countable t o) (x : ℕ) {v l h : ℕ} (is : look
   pub trips_mean : trips_by t (length o) l + trips_by t (length o) h ≡ trips_by t (length o) x * 2
   unfolding trips_by
   trips_mean =
-      many_choice n v _ _ _ in-range
+      many_choice n v _ _ _ in_range
       (record { low = goes false 0 refl; high = goes true 1 refl; low_deaf = λ inputs e. deaf false inputs; high_deaf = λ inputs e. deaf true inputs })

@@ -16,12 +16,13 @@ use Rattle.count_shares.specs.Share.{most_counted, share}
 use Rattle.count_levels.specs.Mean.{trips_by, Countable}
 use Rattle.checks.specs.Stages.{refusal, stage_at, verdict_of, row_refuses, row_passes, place_refuses, place_passes}
 use Rattle.checks.specs.Check.{check_stages}
-use Rattle.checks.specs.Usable.{Usable, clear_usable}
+use Rattle.checks.specs.Usable.{Usable}
+use Rattle.checks.proofs.Usable.{clear_usable}
 use Rattle.checks.specs.declared.Refusal.{Refusal}
 use Rattle.checks.specs.declared.Verdict.{Verdict}
 use Rattle.checks.specs.declared.Verdict.TheVariants as verdict
 use Rattle.reading.specs.Read.{no_root, root_value}
-use Rattle.reading.specs.Theorems.{root_vertex}
+use Rattle.reading.proofs.Theorems.{root_vertex}
 use Rattle.counting.specs.Count.{too_many_inputs, count_stages, trips, count_after, count_of, CountOutcome}
 use Rattle.counting.specs.declared.CountAnswer.TheVariants.{Counted, Refused}
 

@@ -2,10 +2,10 @@
 -- does, and changes nothing. There is no room exactly where more records would be used afterwards than the table has, which is where more are needed
 -- than are free or die; the log is short exactly where there is room, but more entries are needed than it holds; and then nothing changes either.
 --
--- `check_of`, `read_of`, `part_of`, `swap_of`, `run_of` and `recover_of` are the outcomes that the contracts of the entries cite. t is the table, r the roots, o the
--- order and g the target, each as the list of its bytes; a state s is a table, an order and a log. An entry's checks are a list: `check_stages`, `read_stages`,
--- `swap_stages`, `run_stages`, `recover_stages`. `FailsFirst` of such a list, with k and p: check k fails at place p, at no place before it, and every check
--- before k passes everywhere. Of Count and of Label the same is said in `Counted` and in `Labelled`.
+-- `check_of`, `read_of`, `part_of`, `swap_of`, `run_of` and `recover_of` are the outcomes that the contracts of the entries cite. t is the table, r the
+-- roots, o the order and g the target, each as the list of its bytes; a state s is a table, an order and a log. An entry's checks are a list:
+-- `check_stages`, `read_stages`, `swap_stages`, `run_stages`, `recover_stages`. `FailsFirst` of such a list, with k and p: check k fails at place p, at
+-- no place before it, and every check before k passes everywhere. Of Count and of Label the same is said in `Counted` and in `Labelled`.
 use Rattle.std.specs.Prelude.{ℕ, ◌+◌, ◌≤◌, ◌<◌, Bool, List, [], ◌≡◌, refl}
 use Rattle.std.proofs.Common.{ap, sym, ◌∙◌}
 use Rattle.lists.specs.Apart.{apart}
@@ -15,7 +15,7 @@ use Rattle.plans.specs.Inversions.{left}
 use Rattle.plans.specs.Numbered.{plan_of}
 use Rattle.checks.specs.Stages.{refusal, FailsFirst}
 use Rattle.checks.specs.Check.{used, check_stages, check_of, CheckOutcome}
-use Rattle.checks.specs.Theorems as check
+use Rattle.checks.proofs.Theorems as check
 use Rattle.checks.specs.declared.Refusal.{Refusal}
 use Rattle.checks.specs.declared.CheckAnswer.{CheckAnswer}
 use Rattle.checks.specs.declared.CheckAnswer.TheVariants as checked
@@ -23,9 +23,9 @@ use Rattle.reading.specs.Read.{read_stages, read_of, ReadOutcome}
 use Rattle.parts.specs.Part.{no_part}
 use Rattle.parts.specs.Lent.{Lent}
 use Rattle.showing.specs.Show.{part_at, part_of, ShowOutcome}
-use Rattle.showing.specs.Parts as show
+use Rattle.showing.proofs.Parts as show
 use Rattle.showing.specs.Parts.{Nothing, Something}
-use Rattle.reading.specs.Theorems as read
+use Rattle.reading.proofs.Theorems as read
 use Rattle.reading.specs.Theorems.{Reads}
 use Rattle.reading.specs.declared.ReadAnswer.{ReadAnswer}
 use Rattle.reading.specs.declared.ReadAnswer.TheVariants as reads
@@ -36,7 +36,7 @@ use Rattle.undo.specs.Calls.{Call, Ended}
 use Rattle.undo.specs.Log.{entries_held}
 use Rattle.swap_ways.specs.Ways.{lack, short, entries_for, is_clear}
 use Rattle.swaps.specs.Outcome.{swap_stages, swap_call, swap_of, SwapOutcome}
-use Rattle.swaps.specs.Entry as swap
+use Rattle.swaps.proofs.Entry as swap
 use Rattle.swap_ways.specs.Room as room
 use Rattle.swap_ways.specs.Room.{Needed, Dying, HasRoom, LacksRoom}
 use Rattle.swaps.specs.Entry.{AbleOf}
@@ -48,7 +48,7 @@ use Rattle.swaps.specs.declared.SwapAnswer.TheVariants as swaps
 use Rattle.runs.specs.OneSwap.{plain_swap}
 use Rattle.runs.specs.Run.{run_stages, run_of, RunOutcome}
 use Rattle.runs.specs.Answers.{swaps_in}
-use Rattle.runs.specs.Theorems as run
+use Rattle.runs.proofs.Theorems as run
 use Rattle.runs.specs.Theorems.{Startable}
 use Rattle.runs.specs.declared.RunAnswer.{RunAnswer}
 use Rattle.runs.specs.declared.RunAnswer.TheVariants as runs

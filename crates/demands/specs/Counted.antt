@@ -11,7 +11,7 @@ use Rattle.reading.specs.Read.{read_of}
 use Rattle.reading.specs.Theorems.{GoodInputs}
 use Rattle.reading.specs.declared.ReadAnswer.TheVariants as reads
 use Rattle.counting.specs.Count.{count_stages, count_of, CountOutcome}
-use Rattle.counting.specs.Theorems as count
+use Rattle.counting.proofs.Theorems as count
 use Rattle.counting.specs.Theorems.{Counts, answers_one}
 use Rattle.counting.specs.declared.CountAnswer.{CountAnswer}
 use Rattle.counting.specs.declared.CountAnswer.TheVariants as counts

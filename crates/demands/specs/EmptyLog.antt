@@ -10,7 +10,8 @@ use Rattle.orders.specs.Permutation.{Permutation}
 use Rattle.orders.specs.Exchange.{exchange}
 use Rattle.plans.specs.Inversions.{left}
 use Rattle.plans.specs.Plans.{Plan}
-use Rattle.plans.specs.Numbered.{plan_of, no_plan, plan_of_lawful}
+use Rattle.plans.specs.Numbered.{plan_of, no_plan}
+use Rattle.plans.proofs.NumberedLaws.{plan_of_lawful}
 use Rattle.slice_rules.specs.Slices as over
 use Rattle.slice_rules.specs.Slices.{Relay}
 use Rattle.check_sizes.specs.Sizes.{bad_sizes}
@@ -23,10 +24,11 @@ use Rattle.undo.specs.Calls.{Call, Ended, whole}
 use Rattle.undo.specs.Mending.{puts_long}
 use Rattle.undo.specs.Log.{seal_at, entries_held}
 use Rattle.check_log.specs.BadLog.{bad_log_size, open_stages}
-use Rattle.check_log.specs.Open.{empty_verdict}
+use Rattle.check_log.proofs.Open.{empty_verdict}
 use Rattle.swap_ways.specs.Ways.{table_after, is_clear, way_of}
 use Rattle.swaps.specs.Outcome.{swap_way, swap_stages, store_stages, no_level, swap_judged, swap_call, swap_of}
-use Rattle.swaps.specs.Entry.{swap_starts, swap_clear, swap_stuck, swap_short, AbleOf}
+use Rattle.swaps.specs.Entry.{AbleOf}
+use Rattle.swaps.proofs.Entry.{swap_starts, swap_clear, swap_stuck, swap_short}
 use Rattle.swap_ways.specs.declared.Way.{Way}
 use Rattle.swap_ways.specs.declared.Way.TheVariants as way
 use Rattle.swaps.specs.declared.SwapAnswer.{SwapAnswer}
@@ -34,7 +36,8 @@ use Rattle.runs.specs.OneSwap.{plain_swap}
 use Rattle.runs.specs.Run as run
 use Rattle.runs.specs.Run.{stores_of, relay, bad_run_sizes, order_stages, run_stages, answer_of, run_judged, run_call, run_of}
 use Rattle.runs.specs.Answers.{ran_to}
-use Rattle.runs.specs.Theorems.{Good, Startable, run_starts, run_is, good_start, relay_laws, table_after_lem, order_after}
+use Rattle.runs.specs.Theorems.{Good, Startable}
+use Rattle.runs.proofs.Theorems.{run_starts, run_is, good_start, relay_laws, table_after_lem, order_after}
 
 -- two logs of one length, both empty
 pub record Empty (l m : List ℕ) : Type 0 where
@@ -237,7 +240,8 @@ module _ {l m : List ℕ} (e : Empty l m) (number : ℕ) (t r o g : List ℕ) (b
           → Agree (run_of plain_swap number (state t o l) r g budget) (run_of plain_swap number (state t o m) r g budget)
       go verdict.Clear c =
           let a = run_starts plain_swap (state t o l) r g number (clear_only (run_stages plain_swap number t r o g l) c) in
-          let d = run_starts plain_swap (state t o m) r g number (clear_only (run_stages plain_swap number t r o g m) (sym (run_verdict e number t r o g) ∙ c)) in
+          let d =
+              run_starts plain_swap (state t o m) r g number (clear_only (run_stages plain_swap number t r o g m) (sym (run_verdict e number t r o g) ∙ c)) in
           like_runs number r g a.ready.target budget (state t o l) (state t o m) a d (record { table = refl; order = refl; long = e.long })
       go (verdict.Refused w) c =
           agree_by (ap (λ v. whole (run_judged plain_swap (plan_of number) (state t o l) r g budget v) (state t o l)) c)

@@ -9,7 +9,7 @@ use Rattle.diagrams.specs.Value.{value}
 use Rattle.orders.specs.Exchange.{exchange}
 use Rattle.checks.specs.Check.{used, check_of}
 use Rattle.checks.specs.Usable.{Usable}
-use Rattle.checks.specs.Theorems as check
+use Rattle.checks.proofs.Theorems as check
 use Rattle.checks.specs.declared.CheckAnswer.TheVariants as checked
 use Rattle.check_names.specs.Names.{NamedByRoot, NamedByRecord}
 use Rattle.lists.specs.Says.{Says}
@@ -20,7 +20,7 @@ use Rattle.swap_preparing.specs.Table.{needed_in, dying_in}
 use Rattle.undo.specs.Stores.{State}
 use Rattle.undo.specs.Calls.{Ended}
 use Rattle.swaps.specs.Outcome.{swap_of}
-use Rattle.swaps.specs.Entry as swap
+use Rattle.swaps.proofs.Entry as swap
 use Rattle.swaps.specs.declared.SwapAnswer.{SwapAnswer}
 use Rattle.swaps.specs.declared.SwapAnswer.TheVariants.{Made}
 use Rattle.runs.specs.OneSwap.{plain_swap}

@@ -6,9 +6,9 @@ use Rattle.std.specs.Prelude.{ℕ, List, [], ◌≡◌, length}
 use Rattle.std.proofs.Common.{sym, ◌∙◌}
 use Rattle.parts.specs.Part.{Handed}
 use Rattle.labels.specs.Label.{text_size, text_part, label_of, LabelOutcome}
-use Rattle.labels.specs.Labelled as label
+use Rattle.labels.proofs.Labelled as label
 use Rattle.labels.specs.Labelled.{Unlabelled, FromSite, FromFactory, Means}
-use Rattle.labels.specs.Texts as text
+use Rattle.labels.proofs.Texts as text
 use Rattle.labels.specs.Texts.{FromEither}
 use Rattle.labels.specs.declared.Place.{Place}
 use Rattle.demands.specs.Exactly.{Exactly}

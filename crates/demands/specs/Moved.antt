@@ -11,12 +11,12 @@ use Rattle.checks.specs.declared.Refusal.{Refusal}
 use Rattle.undo.specs.Stores.{State}
 use Rattle.undo.specs.Calls.{Ended}
 use Rattle.swaps.specs.Outcome.{swap_of}
-use Rattle.swaps.specs.Entry.{made_only, made_is, made_usable, made_root_value, unmade_state}
+use Rattle.swaps.proofs.Entry.{made_only, made_is, made_usable, made_root_value, unmade_state}
 use Rattle.swaps.specs.declared.SwapAnswer.{SwapAnswer}
 use Rattle.swaps.specs.declared.SwapAnswer.TheVariants as swaps
 use Rattle.runs.specs.OneSwap.{plain_swap}
 use Rattle.runs.specs.Run.{run_of}
-use Rattle.runs.specs.Theorems.{run_startable, run_usable, run_long, run_root_value, refused_keeps}
+use Rattle.runs.proofs.Theorems.{run_startable, run_usable, run_long, run_root_value, refused_keeps}
 use Rattle.runs.specs.declared.RunAnswer.{RunAnswer}
 use Rattle.runs.specs.declared.RunAnswer.TheVariants as runs
 

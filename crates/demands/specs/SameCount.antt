@@ -2,12 +2,14 @@
 use Rattle.std.specs.Prelude.{ℕ, ◌<◌, List, [], ◌∷◌, ◌≡◌, refl, ltb, length}
 use Rattle.std.proofs.Math.Path.{ap}
 use Rattle.std.proofs.Common.{ap₂, sym, ◌∙◌, leb-false}
-use Rattle.lists.specs.Combinations.{how_many, many_same}
+use Rattle.lists.specs.Combinations.{how_many}
+use Rattle.lists.proofs.Combinations.{many_same}
 use Rattle.diagrams.specs.Layout.{root_count}
 use Rattle.count_shares.specs.Share.{most_counted, share}
 use Rattle.checks.specs.Stages.{Stage, stage_at, verdict_of, AllPass, none, also, passed_only, clear_only, row_passes}
 use Rattle.checks.specs.Check.{check_stages}
-use Rattle.checks.specs.Usable.{Usable, usable_clear}
+use Rattle.checks.specs.Usable.{Usable}
+use Rattle.checks.proofs.Usable.{usable_clear}
 use Rattle.checks.specs.declared.Verdict.{Verdict}
 use Rattle.checks.specs.declared.Verdict.TheVariants as verdict
 use Rattle.reading.specs.Read.{no_root, root_value}

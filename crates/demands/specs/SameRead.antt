@@ -8,7 +8,8 @@ use Rattle.diagrams.specs.Lookup.{lookup}
 use Rattle.diagrams.specs.Value.{value}
 use Rattle.checks.specs.Stages.{Stage, stage_at, refusal, verdict_of, row_passes, place_refuses}
 use Rattle.checks.specs.Check.{check_stages}
-use Rattle.checks.specs.Usable.{Usable, usable_clear}
+use Rattle.checks.specs.Usable.{Usable}
+use Rattle.checks.proofs.Usable.{usable_clear}
 use Rattle.checks.specs.declared.Verdict.TheVariants as verdict
 use Rattle.reading.specs.Read.{input_of, no_root, bad_inputs, read_stages, root_value, read_after, read_of}
 use Rattle.demands.specs.Moved.{Alike}

@@ -14,8 +14,8 @@ use Rattle.undo.specs.Calls.{Ended}
 use Rattle.runs.specs.OneSwap.{plain_swap}
 use Rattle.runs.specs.Run.{run_of}
 use Rattle.runs.specs.Answers.{swaps_in, left_in, with_more}
-use Rattle.runs.specs.Adding.{runs_of, run_add, run_slices}
-use Rattle.runs.specs.Theorems as run
+use Rattle.runs.proofs.Adding.{runs_of, run_add, run_slices}
+use Rattle.runs.proofs.Theorems as run
 use Rattle.runs.specs.Theorems.{Startable}
 use Rattle.runs.specs.declared.RunAnswer.{RunAnswer}
 use Rattle.runs.specs.declared.RunAnswer.TheVariants.{Done, Paused}

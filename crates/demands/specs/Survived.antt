@@ -22,21 +22,23 @@ use Rattle.undo.specs.Mending.{puts_long}
 use Rattle.check_log.specs.Accepted.{same_size}
 use Rattle.recovery.specs.Recover.{recover_call, recover_of, recover_cut}
 use Rattle.recovery.specs.Theorems as recover
-use Rattle.recovery.specs.Again.{Accepting, recovers, recover_answers, quiet_accepts, quiet_stays, cut_accepts, cut_before, cut_after}
+use Rattle.recovery.specs.Again.{Accepting, recovers}
+use Rattle.recovery.proofs.Again.{recover_answers, quiet_accepts, quiet_stays, cut_accepts, cut_before, cut_after}
 use Rattle.recovery.specs.declared.RecoverAnswer.{RecoverAnswer}
 use Rattle.recovery.specs.declared.RecoverAnswer.TheVariants.{PutBack}
 use Rattle.swap_ways.specs.Ways.{table_after, way_clear}
 use Rattle.swaps.specs.Outcome.{swap_after, swap_call, swap_of, swap_cut}
-use Rattle.swaps.specs.Entry.{AbleOf, made_only, made_is, call_is, swap_ready}
+use Rattle.swaps.specs.Entry.{AbleOf}
+use Rattle.swaps.proofs.Entry.{made_only, made_is, call_is, swap_ready}
 use Rattle.swap_ways.specs.declared.Way.{Way}
 use Rattle.swaps.specs.declared.SwapAnswer.{SwapAnswer}
 use Rattle.swaps.specs.declared.SwapAnswer.TheVariants.{Made}
 use Rattle.runs.specs.OneSwap.{plain_swap}
 use Rattle.runs.specs.Run.{relay, run_stores, run_cut, run_of}
 use Rattle.runs.specs.Answers.{swaps_in, with_more, as_one}
-use Rattle.runs.specs.Adding.{run_add}
-use Rattle.runs.specs.Stores.{CutAt, between, within, cut_at}
-use Rattle.runs.specs.Theorems as run
+use Rattle.runs.proofs.Adding.{run_add}
+use Rattle.runs.proofs.Stores.{CutAt, between, within, cut_at}
+use Rattle.runs.proofs.Theorems as run
 use Rattle.runs.specs.Theorems.{Good, Startable}
 use Rattle.runs.specs.declared.RunAnswer.{RunAnswer}
 use Rattle.demands.specs.EmptyLog.{Agree, Like, like_runs}

@@ -6,9 +6,9 @@ use borrow.Author.Rules.{rules}
 use Rattle.parts.specs.Part.{Inside, Handed}
 use Rattle.parts.specs.declared.Part.{Part}
 use Rattle.labels.specs.declared.Place.{Place}
-use Rattle.labels.specs.declared.Place.TheVariants.{Nowhere, Site, Factory}
+use Rattle.labels.specs.declared.Place.TheVariants.{Site, Factory}
 use Rattle.labels.specs.Label.{label_of, chosen, part_in, LabelOutcome}
-use Rattle.labels.specs.Labelled.{wrong_label, site_label, factory_label, no_label, found_inside, place_inside}
+use Rattle.labels.proofs.Labelled.{wrong_label, site_label, factory_label, no_label, found_inside, place_inside}
 
 -- `search placing` answers what hangs on the place of a label
 pub ruleset placing = (wrong_label, site_label, factory_label, no_label, found_inside, rules)
@@ -19,14 +19,14 @@ module _ (s f : List ℕ) (v : ℕ) {place : Place} (is : place ≡ label_of s f
   taken_inside : {q : Place} → place ≡ q → Inside (part_in q) (chosen q s f)
   taken_inside e = rw (sym is ∙ e) at (place_inside s f v)
 
-  pub in-site : (p : Part) → place ≡ Site p → Inside p s
-  in-site p e = taken_inside e
+  pub in_site : (p : Part) → place ≡ Site p → Inside p s
+  in_site p e = taken_inside e
 
-  pub in-factory : (p : Part) → place ≡ Factory p → Inside p f
-  in-factory p e = taken_inside e
+  pub in_factory : (p : Part) → place ≡ Factory p → Inside p f
+  in_factory p e = taken_inside e
 
   pub taken_handed : (q : Place) {site factory pointer : ℕ × ℕ} {bytes : List ℕ} → place ≡ q
       → Handed (part_in q) (chosen q s f) (chosen q site factory) pointer bytes → LabelOutcome s f v site factory pointer bytes
   taken_handed q e h = record { handed = rw (← is, e) h }
 
-pub ruleset handing = (in-site, in-factory, taken_handed, rules)
+pub ruleset handing = (in_site, in_factory, taken_handed, rules)

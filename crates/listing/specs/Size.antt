@@ -5,7 +5,7 @@ use Rattle.diagrams.specs.Layout.{most_records, records, root_count, root_at}
 use Rattle.diagrams.specs.Bytes.{Bytes, pair_small}
 use Rattle.texts.specs.Text.{bytes}
 use Rattle.texts.specs.Short.{Short, both_short, turns_short, word_short, numbered_short}
-use Rattle.record_lines.specs.Size.{record_text_short}
+use Rattle.record_lines.proofs.Size.{record_text_short}
 use Rattle.listing.specs.Text.{variable_text, order_line, root_text, roots_line, listing}
 
 variable_short : (o : List ℕ) (k : ℕ) → Bytes o → Short (variable_text o k) 4

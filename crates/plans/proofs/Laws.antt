@@ -18,12 +18,14 @@ use Rattle.orders.specs.Arranged.{bytes_of, Arranged, arranged_length, arranged_
 use Rattle.orders.specs.declared.Order.{Order}
 use Rattle.plans.specs.Inversions.{above, inverted, left}
 use Rattle.plans.specs.Plans.{differs_at, same?}
-use Rattle.plans.specs.BringUp.{first_difference, bring_up, difference_inside, bring_up_below, bring_up_lawful}
-use Rattle.plans.specs.SinkDown.{last_difference, sink_down, last_inside}
+use Rattle.plans.specs.BringUp.{first_difference, bring_up}
+use Rattle.plans.proofs.BringUp.{difference_inside, bring_up_below, bring_up_lawful}
+use Rattle.plans.specs.SinkDown.{last_difference, sink_down}
+use Rattle.plans.proofs.SinkDown.{last_inside}
 use Rattle.plans.specs.Nearest.{inverted_at}
 use Rattle.plans.specs.Numbered.{plan_of, meant}
 use Rattle.plans.specs.declared.Plan as coded
-use Rattle.plans.specs.Towards.{arranged_differ, arranged_adjacent}
+use Rattle.plans.proofs.Towards.{arranged_differ, arranged_adjacent}
 
 -- ---- the levels where order and target differ
 

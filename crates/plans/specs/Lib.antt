@@ -5,4 +5,3 @@ pub mod BringUp
 pub mod SinkDown
 pub mod Nearest
 pub mod Numbered
-pub mod Towards

@@ -17,7 +17,7 @@ module _ {o g : List ℕ} (h : Permutation o) (i : Permutation g) (e : length o 
   p = level_of o (get_or g k 0)
 
   pub p_inside : p < length o
-  p_inside = level_inside o (get_or g k 0) h (rw e (i.in-range k (rw e at w.inside)))
+  p_inside = level_inside o (get_or g k 0) h (rw e (i.in_range k (rw e at w.inside)))
 
   p_holds : get_or o p 0 ≡ get_or g k 0
   p_holds = at_level_of o (get_or g k 0) p_inside
@@ -37,7 +37,7 @@ module _ {o g : List ℕ} (h : Permutation o) (i : Permutation g) (e : length o 
     q = level_of g (get_or o j 0)
 
     pub q_inside : q < length o
-    q_inside = rw e (level_inside g (get_or o j 0) i (rw e at (h.in-range j l)))
+    q_inside = rw e (level_inside g (get_or o j 0) i (rw e at (h.in_range j l)))
 
     q_holds : get_or g q 0 ≡ get_or o j 0
     q_holds = at_level_of g (get_or o j 0) (rw e at q_inside)

@@ -1,10 +1,10 @@
 -- The plans by number, and refusal 13: a number that no plan has.
 -- docs/RULES.md, 2.2 and 5.2.
-use Rattle.std.specs.Prelude.{ℕ, zero, suc, Bool, List, [], ◌∷◌, leb, length, get_or}
-use Rattle.plans.specs.Plans.{Plan, Lawful}
-use Rattle.plans.specs.BringUp.{bring_up, bring_up_lawful}
-use Rattle.plans.specs.SinkDown.{sink_down, sink_down_lawful}
-use Rattle.plans.specs.Nearest.{lowest_inversion, lowest_lawful, highest_inversion, highest_lawful}
+use Rattle.std.specs.Prelude.{ℕ, Bool, List, [], ◌∷◌, leb, length, get_or}
+use Rattle.plans.specs.Plans.{Plan}
+use Rattle.plans.specs.BringUp.{bring_up}
+use Rattle.plans.specs.SinkDown.{sink_down}
+use Rattle.plans.specs.Nearest.{lowest_inversion, highest_inversion}
 use Rattle.plans.specs.declared.Plan as coded
 use Rattle.plans.specs.declared.Plan.TheVariants.{BringUp, SinkDown, LowestInversion, HighestInversion}
 
@@ -20,16 +20,6 @@ plan_of number = get_or plans number highest_inversion
 unfoldable pub no_plan : ℕ → Bool
 no_plan number = leb (length plans) number
 
--- ---- each has the law of a plan
-
-pub plan_of_lawful : (number : ℕ) → Lawful (plan_of number)
-unfolding plan_of
-plan_of_lawful zero = bring_up_lawful
-plan_of_lawful (suc zero) = sink_down_lawful
-plan_of_lawful (suc (suc zero)) = lowest_lawful
-plan_of_lawful (suc (suc (suc zero))) = highest_lawful
-plan_of_lawful (suc (suc (suc (suc number)))) = highest_lawful
-
 -- ---- the plan that the code's own name of it means
 
 abbrev pub number_of : coded.Plan → ℕ
@@ -40,7 +30,3 @@ number_of HighestInversion = 3
 
 unfoldable pub meant : coded.Plan → Plan
 meant plan = plan_of (number_of plan)
-
-pub meant_lawful : (plan : coded.Plan) → Lawful (meant plan)
-unfolding meant
-meant_lawful plan = plan_of_lawful (number_of plan)

@@ -16,11 +16,11 @@ use Rattle.checks.specs.Stages.{refusal, stage_at, verdict_of, place_refuses, ro
 use Rattle.checks.specs.declared.Verdict.TheVariants as verdict
 use Rattle.labels.specs.Label.{label_size, most_labels, text_of}
 use Rattle.labels.specs.Labelled.{RightLength, Unlabelled, site_wrong, factory_wrong}
-use Rattle.labels.specs.Texts.{text_empty_if}
+use Rattle.labels.proofs.Texts.{text_empty_if}
 use Rattle.plans.specs.Numbered.{no_plan}
 use Rattle.runs.specs.OneSwap.{plain_swap}
 use Rattle.runs.specs.Run.{bad_run_sizes, store_stages, run_stages, run_call}
-use Rattle.runs.specs.Theorems.{run_sizes}
+use Rattle.runs.proofs.Theorems.{run_sizes}
 use Rattle.runs.specs.declared.RunAnswer.TheVariants.{Refused}
 use Rattle.texts.specs.Text.{bytes, places, decimal, numbered}
 use Rattle.program.specs.Text.{answer_text, answer_line, plan_text, store_text, printed}

@@ -2,7 +2,7 @@
 use Rattle.std.specs.Prelude.{ℕ, ◌≤◌, List, ◌≡◌, length}
 use Rattle.std.proofs.Common.{zero-le, arith, lit≤}
 use Rattle.labels.specs.Label.{text_size, text_of}
-use Rattle.labels.specs.Texts.{text_short}
+use Rattle.labels.proofs.Texts.{text_short}
 use Rattle.swap_ways.specs.declared.Lack.{Lack}
 use Rattle.swap_ways.specs.declared.Short as swap
 use Rattle.runs.specs.declared.RunAnswer.{RunAnswer}

@@ -7,7 +7,7 @@ use borrow.Author.Rules.{rules}
 use borrow.Author.Tests.{eq-eqb, ne_eqb}
 use lib.ListN.{length}
 use Rattle.diagrams.specs.Layout.{variable_at, low_at, high_at, is_free}
-use Rattle.labels.specs.Texts.{label_text_lem}
+use Rattle.labels.proofs.Texts.{label_text_lem}
 use Rattle.texts.specs.Text.{bytes}
 use Rattle.texts.specs.Put.{Put, put_nothing, space_as, put_as}
 use Rattle.record_lines.specs.Text.{fields_text, content_text, label_line, label_text}

@@ -35,11 +35,11 @@ module _ (t o log : List ℕ) (k n : ℕ) where
   pub room_in_table : {x : List ℕ} → EntryFits t o (entry_at log k) → kind_at log k ≡ of_record → n ≡ number_at log k → x ≡ eight log (entry_size * k + 4)
       → record_size * n + length x ≤ length t
   unfolding entry_at
-  room_in_table w e p q = omega (arith, w.in-table-lem e, ap length q)
+  room_in_table w e p q = omega (arith, w.in_table_lem e, ap length q)
 
   pub room_in_order : EntryFits t o (entry_at log k) → (kind_at log k ≡ of_record → ⊥) → n ≡ number_at log k → n + 2 ≤ length o
   unfolding entry_at
-  room_in_order w e p = omega (arith, w.in-order-lem e)
+  room_in_order w e p = omega (arith, w.in_order_lem e)
 
   pub back_in_table : {x t' : List ℕ} {f r : ℕ} → kind_at log k ≡ of_record → n ≡ number_at log k → x ≡ eight log (entry_size * k + 4)
       → Wrote f (run (record_size * n) x) t t' r → Spent f (entry_stores (entry_at log k)) (state t o log) (state t' o log) r
@@ -51,7 +51,8 @@ module _ (t o log : List ℕ) (k n : ℕ) where
       → Wrote f (run n (get_or x 0 0 ∷ get_or x 1 0 ∷ [])) o o' r → Spent f (entry_stores (entry_at log k)) (state t o log) (state t o' log) r
   unfolding entry_at entry_stores
   back_in_order {x} {o'} {f} {r} e p q w =
-      rw (ne_eqb _ 0 e) (spent_as (spent_in in_order (state t o log) w) (ap₂ (λ (m : ℕ) (y : List ℕ). into in_order (run m (get_or y 0 0 ∷ get_or y 1 0 ∷ []))) p q))
+      rw (ne_eqb _ 0 e) (spent_as (spent_in in_order (state t o log) w)
+          (ap₂ (λ (m : ℕ) (y : List ℕ). into in_order (run m (get_or y 0 0 ∷ get_or y 1 0 ∷ []))) p q))
 
 -- ---- one after the other
 
@@ -90,7 +91,7 @@ backs_end {t} {o} {log} {t'} {o'} {n} {f} {k} {r} w h = let e : k ≡ n = omega 
 pub backs_fit : {t o log t' o' : List ℕ} {n f k r : ℕ} → Backs t o log n f k t' o' r → EntriesFit t o log n → k < n → EntryFits t' o' (entry_at log k)
 backs_fit w v h =
     let e = v.each _ h in
-    record { in-table-lem = λ z. rw w.long_t (e.in-table-lem z); in-order-lem = λ z. rw w.long_o (e.in-order-lem z) }
+    record { in_table_lem = λ z. rw w.long_t (e.in_table_lem z); in_order_lem = λ z. rw w.long_o (e.in_order_lem z) }
 
 pub ruleset backs = (backs_begin, backs_go, backs_end, backs_fit, rules)
 

@@ -11,8 +11,8 @@ use Rattle.undo.specs.Log.{entry_size, Entry, of_record, kind_at, number_at, ent
 use Rattle.check_log.specs.BadLog.{past, malformed, repeats, bad_entry, entry_stages, log_stages, log_sizes, seal_few}
 
 pub record EntryFits (t o : List ℕ) (e : Entry) : Type 0 where
-  pub in-table-lem : e.kind ≡ of_record → record_size * e.number + record_size ≤ length t
-  pub in-order-lem : (e.kind ≡ of_record → ⊥) → e.number + 2 ≤ length o
+  pub in_table_lem : e.kind ≡ of_record → record_size * e.number + record_size ≤ length t
+  pub in_order_lem : (e.kind ≡ of_record → ⊥) → e.number + 2 ≤ length o
 
 pub record EntriesFit (t o log : List ℕ) (n : ℕ) : Type 0 where
   pub room : entry_size * n ≤ length log
@@ -40,8 +40,8 @@ entry_past log N n k e = (or_neither (malformed log k) (past log N n k) (or_neit
 entry_fits : (t o log : List ℕ) (k : ℕ) → length t ≡ record_size * records t → past log (records t) (length o) k ≡ false → EntryFits t o (entry_at log k)
 unfolding entry_at past
 entry_fits t o log k whole e = record {
-  in-table-lem = λ z. omega (arith, leb-false (records t) (number_at log k) (rw (eq-eqb (kind_at log k) of_record z) at e));
-  in-order-lem = λ z. omega (arith, leb-false (length o - 1) (number_at log k) (rw (ne_eqb (kind_at log k) of_record z) at e));
+  in_table_lem = λ z. omega (arith, leb-false (records t) (number_at log k) (rw (eq-eqb (kind_at log k) of_record z) at e));
+  in_order_lem = λ z. omega (arith, leb-false (length o - 1) (number_at log k) (rw (ne_eqb (kind_at log k) of_record z) at e));
 }
 
 pub accepted_fits : (t o log : List ℕ) → Sizes t [] o → AllPass (log_stages log (records t) (length o)) → LogFits t o log

@@ -2,4 +2,3 @@ pub mod Recover
 pub mod Fits
 pub mod Theorems
 pub mod Again
-pub mod Bounds

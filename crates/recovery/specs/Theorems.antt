@@ -1,7 +1,6 @@
 -- What Recover answers, and when: one outcome for each input, when it refuses, and that a second one changes nothing more.
 use Rattle.std.specs.Prelude.{ℕ, ◌-◌, ◌≤◌, Bool, true, false, List, [], ◌∷◌, ◌++◌, ◌≡◌, refl, eqb, length, get_or, set}
 use Rattle.std.proofs.Common.{ap, sym, ◌∙◌, arith, length-set, get_or-set_same, ne_eqb}
-use Rattle.diagrams.specs.Layout.{records}
 use Rattle.checks.specs.Stages.{AllPass, also, FailsFirst, refusal, verdict_of, passed_only, clear_only, refused_if, refused_only}
 use Rattle.checks.specs.declared.Verdict.{Verdict}
 use Rattle.checks.specs.declared.Verdict.TheVariants as verdict
@@ -10,11 +9,12 @@ use Rattle.undo.specs.Stores.{in_log, State, Store, put, puts, puts_append}
 use Rattle.undo.specs.Mending.{puts_long}
 use Rattle.undo.specs.Calls.{Ended, only, puts_none}
 use Rattle.undo.specs.Log.{entry_size, most_log_records, seal_at, seal_mark, is_sealed, seal_count, logged, putting, clearing, recovery_stores}
-use Rattle.undo.specs.Counts.{enough, recovery_few}
+use Rattle.undo.specs.Counts.{enough}
+use Rattle.undo.proofs.Counts.{recovery_few}
 use Rattle.check_log.specs.BadLog.{log_stages, entry_stages, log_sizes, seal_few}
 use Rattle.recovery.specs.Recover.{recover_stages, recover_judged, recover_call, recover_of, RecoverOutcome}
 use Rattle.recovery.specs.declared.RecoverAnswer.{RecoverAnswer}
-use Rattle.recovery.specs.declared.RecoverAnswer.TheVariants.{PutBack, Refused}
+use Rattle.recovery.specs.declared.RecoverAnswer.TheVariants.{Refused}
 
 -- no recovery makes more stores than the library has fuel for
 pub few_stores : (s : State) → length (recover_call s).stores ≤ enough

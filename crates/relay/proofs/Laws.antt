@@ -12,21 +12,21 @@ use lib.ListN.{length, set}
 use Rattle.lists.specs.Truth.{or_neither}
 use Rattle.parts.specs.declared.Part.{Part}
 use Rattle.checks.specs.Check.{CheckOutcome}
-use Rattle.checks.specs.Theorems.{used_small, check_place_small}
+use Rattle.checks.proofs.Theorems.{used_small, check_place_small}
 use Rattle.checks.specs.declared.Refusal.{Refusal}
 use Rattle.checks.specs.declared.CheckAnswer.{CheckAnswer}
 use Rattle.checks.specs.declared.CheckAnswer.TheVariants as check
 use Rattle.reading.specs.Read.{ReadOutcome}
 use Rattle.showing.specs.Show.{part_of}
-use Rattle.showing.specs.Parts.{part_inside, part_small}
-use Rattle.reading.specs.Theorems.{read_place_small}
+use Rattle.showing.proofs.Parts.{part_inside, part_small}
+use Rattle.reading.proofs.Theorems.{read_place_small}
 use Rattle.labels.specs.Label.{label_of, part_in}
-use Rattle.labels.specs.Labelled.{place_inside, place_small}
+use Rattle.labels.proofs.Labelled.{place_inside, place_small}
 use Rattle.labels.specs.declared.Place.{Place}
 use Rattle.reading.specs.declared.ReadAnswer.{ReadAnswer}
 use Rattle.reading.specs.declared.ReadAnswer.TheVariants as reading
 use Rattle.counting.specs.Count.{CountOutcome}
-use Rattle.counting.specs.Theorems.{count_place_small}
+use Rattle.counting.proofs.Theorems.{count_place_small}
 use Rattle.counting.specs.declared.CountAnswer.{CountAnswer}
 use Rattle.counting.specs.declared.CountAnswer.TheVariants as counting
 use Rattle.undo.specs.Stores.{State}

@@ -4,12 +4,12 @@ use Rattle.std.proofs.Common.{arith}
 use Rattle.lists.specs.Below.{Below}
 use Rattle.undo.specs.Stores.{State}
 use Rattle.recovery.specs.Recover as recover
-use Rattle.recovery.specs.Bounds.{recover_numbers_small}
+use Rattle.recovery.proofs.Bounds.{recover_numbers_small}
 use Rattle.swaps.specs.Outcome as swap
-use Rattle.swaps.specs.Bounds.{swap_numbers_small}
+use Rattle.swaps.proofs.Bounds.{swap_numbers_small}
 use Rattle.runs.specs.OneSwap.{plain_swap}
 use Rattle.runs.specs.Run as run
-use Rattle.runs.specs.Bounds.{run_numbers_small}
+use Rattle.runs.proofs.Bounds.{run_numbers_small}
 
 abbrev pub limit : ℕ
 limit = 4294967296
@@ -20,7 +20,8 @@ Fits numbers = Below limit numbers
 pub swap_fits : (s : State) (r : List ℕ) (k : ℕ) → k < limit → Fits (swap.numbers (swap.swap_of s r k).answer)
 swap_fits s r k h = swap_numbers_small s r k limit (omega arith) h
 
-pub run_fits : (s : State) (r g : List ℕ) (plan budget : ℕ) → plan < limit → budget < limit → Fits (run.numbers (run.run_of plain_swap plan s r g budget).answer)
+pub run_fits : (s : State) (r g : List ℕ) (plan budget : ℕ) → plan < limit → budget < limit
+    → Fits (run.numbers (run.run_of plain_swap plan s r g budget).answer)
 run_fits s r g plan budget p b = run_numbers_small plan s r g budget limit (omega arith) b p
 
 pub recover_fits : (s : State) → Fits (recover.numbers (recover.recover_of s).answer)

@@ -19,7 +19,7 @@ use Rattle.check_log.specs.BadLog.{open_stages}
 use Rattle.check_log.specs.Slots.{Placeable}
 use Rattle.runs.specs.OneSwap.{plain_swap}
 use Rattle.runs.specs.Run.{bad_run_sizes, order_stages, store_stages}
-use Rattle.runs.specs.Theorems.{run_sizes}
+use Rattle.runs.proofs.Theorems.{run_sizes}
 
 pub ruleset ordering = (passed_all, chain)
 

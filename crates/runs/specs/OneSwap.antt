@@ -12,7 +12,8 @@ use Rattle.checks.specs.Stages.{Stage, stage_at, AllPass, also}
 use Rattle.checks.specs.Check as check
 use Rattle.checks.specs.Check.{order_stage, check_stages}
 use Rattle.checks.specs.Usable as checked
-use Rattle.checks.specs.Usable.{usable_then, all_pass, passes_all}
+use Rattle.checks.proofs.Usable as checks_laws
+use Rattle.checks.proofs.Usable.{usable_then, all_pass, passes_all}
 use Rattle.undo.specs.Stores.{State}
 use Rattle.undo.specs.Calls.{Call, only}
 use Rattle.undo.specs.Log.{entries_needed, entries_held, swap_stores}
@@ -24,9 +25,9 @@ use Rattle.swap_ways.specs.Ways.{is_clear, way_clear}
 use Rattle.swaps.specs.Outcome.{swap_after}
 use Rattle.swaps.specs.Bytes.{length_after, swap_usable, swap_root_value}
 use Rattle.swaps.specs.Work.{Swappable}
-use Rattle.swaps.specs.Entry as entry
+use Rattle.swaps.proofs.Entry as entry
 use Rattle.swap_ways.specs.Room.{clear_fits, clear_then}
-use Rattle.swaps.specs.Entry.{call_is}
+use Rattle.swaps.proofs.Entry.{call_is}
 use Rattle.swap_ways.specs.declared.Way.{Way}
 use Rattle.swap_ways.specs.declared.Way.TheVariants as way
 use Rattle.swap_ways.specs.declared.Lack.{Lack}
@@ -76,7 +77,7 @@ table_passes t r o (also h (also p rest)) = rest
 
 pub plain_usable : (t r o : List ℕ) → AllPass (stage_at 1 0 (bad_sizes t r o) ∷ order_stage 2 o ∷ check.table_stages t r o) → checked.Usable t r o
 unfolding check_stages
-plain_usable t r o p = checked.usable_if t r o (passes_all t r o p)
+plain_usable t r o p = checks_laws.usable_if t r o (passes_all t r o p)
 
 module _ (s : State) (r : List ℕ) (k : ℕ) (u : checked.Usable s.table r s.order) (l : k + 1 < length s.order) (p : Open s.log) where
   able : Swappable s.table r s.order s.log k

@@ -36,8 +36,8 @@ of c bits = Counted c (of_bits binary64 bits)
 
 -- what Count answers, by the definition in its contract; `unfolding counted` opens all that it is computed with
 unfoldable pub counted : Row → CountAnswer
-unfolding node_at decode eight encode root_bytes check_stages opened_stages first count tabulate each look combinations passing how_many chosen met value input_of
-    root_value count_stages trips count_of share round
+unfolding node_at decode eight encode root_bytes check_stages opened_stages first count tabulate each look combinations passing how_many chosen met
+    value input_of root_value count_stages trips count_of share round
 counted g = count_of (encode g.records) (root_bytes g.roots) g.order g.position
 
 unfoldable pub rows : List Row

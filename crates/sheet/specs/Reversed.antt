@@ -9,8 +9,10 @@ use Rattle.orders.specs.Permutation.{ceiling, Permutation, level_of, holds_at}
 use Rattle.orders.specs.Exchange.{exchange, length_exchange, exchange_permutation}
 use Rattle.plans.specs.Inversions.{left, inverted}
 use Rattle.plans.specs.Plans.{Plan, Lawful}
-use Rattle.plans.specs.Numbered.{plan_of, plan_of_lawful}
-use Rattle.slice_rules.specs.Slices.{Relay, RelayLaws, goes, made, leaves, arrived_done, enough, done_all}
+use Rattle.plans.specs.Numbered.{plan_of}
+use Rattle.plans.proofs.NumberedLaws.{plan_of_lawful}
+use Rattle.slice_rules.specs.Slices.{Relay, RelayLaws, goes, made, leaves}
+use Rattle.slice_rules.proofs.Slices.{arrived_done, enough, done_all}
 
 -- an order alone, where nothing stands in the way of a swap
 abbrev pub order_alone : Relay (List ℕ) Bool
@@ -30,7 +32,7 @@ i_left = refl
 
 tabulated : (n : ℕ) (f : ℕ → ℕ) → ((k : ℕ) → k < n → f k < n) → ((j k : ℕ) → j < k → k < n → f j ≡ f k → ⊥) → Permutation (tabulate n f)
 tabulated n f small distinct = record {
-  in-range = λ k l. let m : k < n = rw (length_tabulate n f) at l in rw (length_tabulate n f, get_d_tabulate n f k 0 m) (small k m);
+  in_range = λ k l. let m : k < n = rw (length_tabulate n f) at l in rw (length_tabulate n f, get_d_tabulate n f k 0 m) (small k m);
   distinct = λ j k l m e.
       let b : k < n = rw (length_tabulate n f) at m in
       distinct j k l b (sym (get_d_tabulate n f j 0 (omega arith)) ∙ e ∙ get_d_tabulate n f k 0 b);

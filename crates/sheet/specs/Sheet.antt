@@ -75,12 +75,13 @@ ran_from g = run_of plain_swap g.plan (state (encode g.records) g.order g.log) (
 
 -- what the run gives, by the definition in its contract; `unfolding outcome` opens all that a run is computed with
 unfoldable pub outcome : Row → Outcome
-unfolding node_at decode eight encode roots_of run_call run_stages store_stages order_stages bad_run_sizes opened_stages open_stages log_stages entry_stages bad_log_size
-    bad_seal some_byte bad_entry malformed past repeats answer_of relay run_stores run put puts changed entries_of entries_needed entry_stores logging sealing putting
-    swap_stores slice leaves over.judge made goes next arrived same? plan_of no_plan differs_at bring_up first_difference sink_down last_difference inverted_at
-    lowest_inversion highest_inversion exchange left inverted pairs total first last count tabulate keep once each which look low_of high_of is_free_node is_of
-    same grandchild f00 f01 f10 f11 crosses asked stands is_new wanted news still_names dies dying_count slots slot_of X becomes needed free_count used_count
-    used_afterwards fits slot_index filled record_after swapped way_of table_after
+unfolding node_at decode eight encode roots_of run_call run_stages store_stages order_stages bad_run_sizes opened_stages open_stages log_stages
+    entry_stages bad_log_size bad_seal some_byte bad_entry malformed past repeats answer_of relay run_stores run put puts changed entries_of
+    entries_needed entry_stores logging sealing putting swap_stores slice leaves over.judge made goes next arrived same? plan_of no_plan differs_at
+    bring_up first_difference sink_down last_difference inverted_at lowest_inversion highest_inversion exchange left inverted pairs total first last
+    count tabulate keep once each which look low_of high_of is_free_node is_of same grandchild f00 f01 f10 f11 crosses asked stands is_new wanted news
+    still_names dies dying_count slots slot_of X becomes needed free_count used_count used_afterwards fits slot_index filled record_after swapped
+    way_of table_after
 outcome row =
     let g = row.given in
     let k = plan_of g.plan g.order g.target in

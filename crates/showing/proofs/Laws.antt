@@ -6,7 +6,7 @@ use borrow.Author.Rules.{rules}
 use Rattle.parts.specs.Part.{Inside, Handed}
 use Rattle.parts.specs.declared.Part.{Part}
 use Rattle.showing.specs.Show.{part_of, ShowOutcome}
-use Rattle.showing.specs.Parts.{refused_part, no_root_part, constant_part, record_part, root_inside, record_ends, part_inside}
+use Rattle.showing.proofs.Parts.{refused_part, no_root_part, constant_part, record_part, root_inside, record_ends, part_inside}
 
 -- `search showing` answers what hangs on the part
 pub ruleset showing = (refused_part, no_root_part, constant_part, record_part, root_inside, record_ends, rules)

@@ -7,14 +7,16 @@ use Rattle.orders.specs.Order.{Inverse}
 use Rattle.orders.specs.Arranged.{bytes_of, Arranged, arranged_length, arranged_inverse}
 use Rattle.orders.specs.declared.Order.{Order}
 use Rattle.plans.specs.Plans.{Plan, same?}
-use Rattle.plans.specs.Numbered.{meant, meant_lawful}
+use Rattle.plans.specs.Numbered.{meant}
+use Rattle.plans.proofs.NumberedLaws.{meant_lawful}
 use Rattle.plans.specs.declared.Plan as coded
-use Rattle.plans.specs.Towards.{arranged_adjacent}
+use Rattle.plans.proofs.Towards.{arranged_adjacent}
 use Rattle.slice_rules.specs.Slices as over
 use Rattle.check_sizes.specs.Sizes.{TableSizes}
 use Rattle.undo.specs.Stores.{state}
 use Rattle.check_log.specs.BadLog.{LogSizes}
-use Rattle.check_log.specs.Open.{Open, open_sizes}
+use Rattle.check_log.specs.Open.{Open}
+use Rattle.check_log.proofs.Open.{open_sizes}
 use Rattle.swaps.specs.Work.{Storable}
 use Rattle.runs.specs.OneSwap.{plain_swap}
 use Rattle.runs.specs.Run.{relay}

@@ -19,7 +19,8 @@ use Rattle.plans.specs.Plans.{Plan, same?}
 use Rattle.plans.specs.Numbered.{plan_of, meant}
 use Rattle.plans.specs.declared.Plan as coded
 use Rattle.slice_rules.specs.Slices as over
-use Rattle.slice_rules.specs.Slices.{Relay, slicing_begins, slicing_goes, slicing_rests, slicing_ends}
+use Rattle.slice_rules.specs.Slices.{Relay}
+use Rattle.slice_rules.proofs.Slices.{slicing_begins, slicing_goes, slicing_rests, slicing_ends}
 use Rattle.check_sizes.specs.Sizes.{TableSizes, sized}
 use Rattle.checks.specs.Stages.{verdict_of, clear_only}
 use Rattle.checks.specs.declared.Refusal.{Refusal}
@@ -29,7 +30,8 @@ use Rattle.undo.specs.Stores.{in_table, in_order, in_log, State, state, Store, p
 use Rattle.undo.specs.Calls.{Call, whole, cut, only, only_cut, cut_late}
 use Rattle.undo.specs.Wrote.{Spent, spent_none, spent_more, spent_as, spent_long}
 use Rattle.undo.specs.Log.{entries_held}
-use Rattle.undo.specs.Survives.{Ready, Quiet, swap_quiet}
+use Rattle.undo.specs.Survives.{Ready, Quiet}
+use Rattle.undo.proofs.Survives.{swap_quiet}
 use Rattle.undo.specs.Counts.{enough}
 use Rattle.check_log.specs.Accepted.{same_size}
 use Rattle.swap_rules.specs.Swap.{x_at, y_at}
@@ -50,8 +52,9 @@ use Rattle.slice_judging.specs.Drivable.{Drivable, few_levels, order_arranged, g
 use Rattle.slice_judging.specs.Drivable.{plan_inside, plan_in_order, plan_low, plan_storable, arrived_as, next_is}
 use Rattle.slice_judging.specs.Judged.{judged_on}
 use Rattle.slices.specs.Work.{progress_of, Stepped, Driven, Stopped}
-use Rattle.runs.specs.Stores.{next_stores, stepped_is, stores_rest, stores_add}
-use Rattle.runs.specs.Theorems.{Runnable, few_stores, run_starts}
+use Rattle.runs.proofs.Stores.{next_stores, stepped_is, stores_rest, stores_add}
+use Rattle.runs.specs.Theorems.{Runnable}
+use Rattle.runs.proofs.Theorems.{few_stores, run_starts}
 use Rattle.runs.specs.declared.RunAnswer.{RunAnswer}
 use Rattle.runs.specs.declared.RunAnswer.TheVariants.{NoRoom, LogShort, Refused}
 use Rattle.slices.specs.declared.Progress.{Progress}

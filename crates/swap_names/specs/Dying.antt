@@ -83,7 +83,8 @@ module _ (t : List ℕ) (x y : ℕ) where
       high : eqb (high_at t j) q ≡ true → is_of y (lookup t (high_at t j)) ≡ true
       high z = ap (λ r. is_of y (lookup t r)) (eqb-true (high_at t j) q z) ∙ e
 
-      go : (b : Bool) → (eqb (low_at t j) q ≡ true) ⊎ (eqb (high_at t j) q ≡ true) → (b && (is_of y (lookup t (low_at t j)) || is_of y (lookup t (high_at t j)))) ≡ b
+      go : (b : Bool) → (eqb (low_at t j) q ≡ true) ⊎ (eqb (high_at t j) q ≡ true)
+          → (b && (is_of y (lookup t (low_at t j)) || is_of y (lookup t (high_at t j)))) ≡ b
       go true (inl z) = rw (low z)
       go true (inr z) = ap (λ v. is_of y (lookup t (low_at t j)) || v) (high z) ∙ sym (or_true (is_of y (lookup t (low_at t j))))
       go false w = refl

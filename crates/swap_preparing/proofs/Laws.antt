@@ -13,7 +13,7 @@ use Rattle.diagrams.specs.Layout.{records}
 use Rattle.diagrams.specs.Node.{at}
 use Rattle.diagrams.specs.Decode.{decode}
 use Rattle.diagrams.specs.Lookup.{roots_of}
-use Rattle.swap_rules.specs.Room.{slots_count}
+use Rattle.swap_rules.proofs.Room.{slots_count}
 use Rattle.swap_records.specs.declared.Pair.{Pair}
 use Rattle.swap_names.specs.Slots.{SlotsListed, slots_inside}
 use Rattle.swap_reckoning.specs.Searching.{with_needed}

@@ -5,7 +5,7 @@ use Rattle.diagrams.specs.Layout.{records}
 use Rattle.diagrams.specs.Node.{at}
 use Rattle.diagrams.specs.Decode.{decode, encode}
 use Rattle.diagrams.specs.Lookup.{roots_of}
-use Rattle.swap_rules.specs.Room.{fits_slots}
+use Rattle.swap_rules.proofs.Room.{fits_slots}
 use Rattle.swap_rules.specs.Swap.{needed, free_count, dying_count, fits, swapped}
 
 -- needed: how many new records the swap makes

@@ -16,7 +16,8 @@ use Rattle.swap_result.specs.Image.{stayed, freed, placed}
 
 -- ---- a record
 
-pub pair_laid : (v : ℕ) (pairs : List ℕ) (k : ℕ) {a b : ℕ} (f : Fields) → a ≡ get_or pairs (2 * k) 0 → b ≡ get_or pairs (2 * k + 1) 0 → laid f ≡ eight (node v a b)
+pub pair_laid : (v : ℕ) (pairs : List ℕ) (k : ℕ) {a b : ℕ} (f : Fields) → a ≡ get_or pairs (2 * k) 0 → b ≡ get_or pairs (2 * k + 1) 0
+    → laid f ≡ eight (node v a b)
     → laid f ≡ eight (pair_at v pairs k)
 pair_laid v pairs k f p q e = rw (← p, ← q) e
 

@@ -74,7 +74,8 @@ module _ {t r o : List ℕ} {k : ℕ} {p : Pair} (P : PairAt o k p) where
     asked_room held e h =
         e ∙ way_is held way.Clear (λ b. log_clears k (entries_for t r o k) held (omega (arith, few_entries t (table_after t r o k))))
 
-  pub asked : {q : Counts} {image : List ℕ} (held : ℕ) {w : Way} → Prepared t r p q image → w ≡ way_by k q way.Clear → records t < held → w ≡ way_of t r o held k
+  pub asked : {q : Counts} {image : List ℕ} (held : ℕ) {w : Way} → Prepared t r p q image → w ≡ way_by k q way.Clear → records t < held
+      → w ≡ way_of t r o held k
   asked held A = asked_room A.counts held
 
   pub reckoned : {q : Counts} {image : List ℕ} {held n : ℕ} {log w : Way} → Prepared t r p q image → n ≡ entries_needed t image → log ≡ log_way k n held

@@ -65,5 +65,6 @@ module _ (t r o : List ℕ) (held k : ℕ) where
   unfolding way_of
   short_if h l = rw (roomy h, lt-leb (entries_for t r o k) held l)
 
-  pub short_then : (l : Short) → way_of t r o held k ≡ way.LogShort l → HasRoom t r o k × (held < entries_for t r o k) × (l ≡ short k (entries_for t r o k) held)
+  pub short_then : (l : Short) → way_of t r o held k ≡ way.LogShort l
+      → HasRoom t r o k × (held < entries_for t r o k) × (l ≡ short k (entries_for t r o k) held)
   short_then l e = let (f, g, q) = way_short t r o held k l e in (room_is f, leb-false (entries_for t r o k) held g, q)

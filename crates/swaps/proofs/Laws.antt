@@ -25,7 +25,7 @@ use Rattle.undo.specs.Wrote.{spent_none, spent_as}
 use Rattle.undo.specs.Log.{entries_needed, entries_held, swap_stores}
 use Rattle.undo.specs.Counts.{enough}
 use Rattle.check_log.specs.BadLog.{LogSizes, open_stages}
-use Rattle.check_log.specs.Open.{open_sizes}
+use Rattle.check_log.proofs.Open.{open_sizes}
 use Rattle.check_log.specs.Slots.{Placeable}
 use Rattle.commits.specs.Steps.{Writable, Committed}
 use Rattle.swap_rules.specs.Swap.{x_at, y_at}
@@ -37,7 +37,7 @@ use Rattle.swap_ways.specs.Reckoning.{Reckoned}
 use Rattle.swaps.specs.Work.{Storable, Swapped, answer_by}
 use Rattle.swaps.specs.Bytes.{length_after}
 use Rattle.swap_ways.specs.Room.{clear_then}
-use Rattle.swaps.specs.Entry.{swap_starts, store_usable, few_stores}
+use Rattle.swaps.proofs.Entry.{swap_starts, store_usable, few_stores}
 use Rattle.swap_ways.specs.declared.Lack.{Lack}
 use Rattle.swap_ways.specs.declared.Short.{Short}
 use Rattle.swap_ways.specs.declared.Way.{Way}

@@ -20,16 +20,19 @@ use Rattle.diagrams.proofs.Reduced.{diagram_of, look_ends}
 use Rattle.diagrams.specs.Value.{value, Value}
 use Rattle.checks.specs.Check.{used, check_of}
 use Rattle.check_names.specs.Names.{NamedByRoot, NamedByRecord}
-use Rattle.checks.specs.Usable.{Usable, by_root_lem, root_by, by_record_lem, record_by}
-use Rattle.checks.specs.Theorems.{accepts}
+use Rattle.checks.specs.Usable.{Usable}
+use Rattle.checks.proofs.Usable.{by_root_lem, root_by, by_record_lem, record_by}
+use Rattle.checks.proofs.Theorems.{accepts}
 use Rattle.checks.specs.declared.CheckAnswer.TheVariants.{Accepted}
 use Rattle.diagrams.specs.Edition.{plain}
 use Rattle.swap_rules.specs.Record.{is_used_node, is_free_node, UsedOf, Behind, behind}
 use Rattle.swap_rules.specs.Swap.{x_at, y_at, crosses, dies, filled, used_count, used_afterwards, swapped}
 use Rattle.swap_records.specs.Kinds as kinds
-use Rattle.swap_rules.specs.Room as room
-use Rattle.swap_rules.specs.Stored.{plain_written, SwapFits, length_swapped}
-use Rattle.swap_rules.specs.Theorem.{Cofactors, swap_diagram, swap_bryant, swap_root, swap_reads, swap_else, swap_count, cofactors, freed_exactly}
+use Rattle.swap_rules.proofs.Room as room
+use Rattle.swap_rules.specs.Stored.{SwapFits}
+use Rattle.swap_rules.proofs.Stored.{plain_written, length_swapped}
+use Rattle.swap_rules.specs.Theorem.{Cofactors}
+use Rattle.swap_rules.proofs.Theorem.{swap_diagram, swap_bryant, swap_root, swap_reads, swap_else, swap_count, cofactors, freed_exactly}
 use Rattle.swap_preparing.specs.Table.{needed_in, free_in, dying_in, fits_in, table_after}
 
 -- ---- as many records as before
@@ -185,7 +188,7 @@ module _ (t r o : List ℕ) (k : ℕ) (usable : Usable t r o) (level : k + 1 < l
   }
     where
       used_y : Used t i
-      used_y e = omega (arith, usable.order.in-range (k + 1) level, usable.sizes.few_variables)
+      used_y e = omega (arith, usable.order.in_range (k + 1) level, usable.sizes.few_variables)
 
       was_y : UsedOf y (lookup t (ref i))
       was_y = record { low = low_at t i; high = high_at t i; is = node_of t i b used_y ∙ ap (λ v. node v (low_at t i) (high_at t i)) is_y }

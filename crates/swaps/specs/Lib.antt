@@ -2,4 +2,3 @@ pub mod Outcome
 pub mod Work
 pub mod Bytes
 pub mod Entry
-pub mod Bounds

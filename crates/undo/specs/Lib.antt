@@ -8,4 +8,3 @@ pub mod Changes
 pub mod Survives
 pub mod Wrote
 pub mod Counts
-pub mod Example

@@ -78,7 +78,8 @@ module _ (log : List ℕ) (es : List Entry) (room : entry_size * length es + ent
   unfolding half
   half_long = length_pokes (run (seal_at log + 1) (seal_bytes (length es))) _ ∙ length_pokes (run 0 (each packed es)) log
 
-  pub entry_byte : (k j : ℕ) (d : Entry) → k < length es → j < entry_size → get_or (sealed_log log es) (entry_size * k + j) 0 ≡ get_or (packed (get_or es k d)) j 0
+  pub entry_byte : (k j : ℕ) (d : Entry) → k < length es → j < entry_size
+      → get_or (sealed_log log es) (entry_size * k + j) 0 ≡ get_or (packed (get_or es k d)) j 0
   unfolding half
   entry_byte k j d h l =
       ap (λ (b : List ℕ). get_or b (entry_size * k + j) 0) half_sealed

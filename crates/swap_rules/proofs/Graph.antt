@@ -10,10 +10,11 @@ use Rattle.diagrams.specs.Levels.{Ends, nonterminal, level, free_node}
 use Rattle.swap_rules.specs.Record.{is_of, UsedOf, of_true, pick_node}
 use Rattle.swap_rules.specs.Swap.{grandchild, crosses}
 use Rattle.swap_rules.specs.Step.{Levels, Side, Asked, Kind, kept, crossed, fresh, gone, Serves, Step, OneSwap}
-use Rattle.swap_rules.specs.Step.{grand_of, grand_self, pick_grand, grand_one, crosses_x, stays_child}
-use Rattle.swap_rules.specs.Stays.{Origin, as_kept, as_crossed, as_fresh, origin, below, x≢y, no_vertex, lasts, kept_is, x_lives, child_lives}
-use Rattle.swap_rules.specs.Stays.{Deep, deep_child, deep_lives, deep_stays, same_level, deep_level, deep_not_x}
-use Rattle.swap_rules.specs.Stays.{crossed_is, pick_side, asks, asked_deep, X-vertex, X-level, X-one, cross_unequal}
+use Rattle.swap_rules.proofs.Step.{grand_of, grand_self, pick_grand, grand_one, crosses_x, stays_child}
+use Rattle.swap_rules.specs.Stays.{Origin, as_kept, as_crossed, as_fresh}
+use Rattle.swap_rules.proofs.Stays.{origin, below, x≢y, no_vertex, lasts, kept_is, x_lives, child_lives}
+use Rattle.swap_rules.proofs.Stays.{Deep, deep_child, deep_lives, deep_stays, same_level, deep_level, deep_not_x}
+use Rattle.swap_rules.proofs.Stays.{crossed_is, pick_side, asks, asked_deep, X-vertex, X-level, X-one, cross_unequal}
 
 module _ {Terminal : ℕ → Type 0} {L L' : ℕ → Node} {Root : ℕ → Type 0} {index index' : ℕ → ℕ} {n k x y : ℕ} {X : ℕ → ℕ → ℕ} {dies : ℕ → Bool}
     (W : OneSwap Terminal L L' Root index index' n k x y X dies) where

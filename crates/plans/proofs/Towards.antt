@@ -4,7 +4,8 @@ use Rattle.lists.specs.Says.{refutes}
 use Rattle.orders.specs.Arranged.{bytes_of, Arranged, arranged_same_length}
 use Rattle.orders.specs.declared.Order.{Order}
 use Rattle.plans.specs.Inversions.{Adjacent}
-use Rattle.plans.specs.Plans.{same?, Plan, Lawful, same_says}
+use Rattle.plans.specs.Plans.{same?, Plan, Lawful}
+use Rattle.plans.proofs.Plans.{same_says}
 
 module _ {o g : Order} {n : ℕ} (h : Arranged o n) (i : Arranged g n) (d : same? (bytes_of o n) (bytes_of g n) ≡ false) where
   pub arranged_differ : bytes_of o n ≡ bytes_of g n → ⊥

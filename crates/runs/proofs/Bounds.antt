@@ -12,23 +12,25 @@ use Rattle.plans.specs.Inversions.{left_small}
 use Rattle.plans.specs.Numbered.{plan_of, no_plan}
 use Rattle.checks.specs.Stages.{stage_at, FailsFirst, here, later, passed_only}
 use Rattle.checks.specs.Check.{table_stages}
-use Rattle.checks.specs.Theorems.{Bounded, refusal_below, table_bounded}
+use Rattle.checks.specs.Theorems.{Bounded}
+use Rattle.checks.proofs.Theorems.{refusal_below, table_bounded}
 use Rattle.undo.specs.Stores.{State}
 use Rattle.undo.specs.Calls.{Ended}
 use Rattle.undo.specs.Log.{entries_held}
-use Rattle.check_log.specs.Open.{open_sizes}
+use Rattle.check_log.proofs.Open.{open_sizes}
 use Rattle.check_log.specs.Bounds.{open_below}
 use Rattle.swap_rules.specs.Swap.{x_at, y_at}
 use Rattle.swap_ways.specs.Ways.{table_after}
-use Rattle.swaps.specs.Bounds.{room_small, entries_small, held_small}
+use Rattle.swaps.proofs.Bounds.{room_small, entries_small, held_small}
 use Rattle.swap_ways.specs.Room.{lacks_then, short_then}
 use Rattle.swap_ways.specs.declared.Lack.{Lack}
 use Rattle.swap_ways.specs.declared.Short.{Short}
 use Rattle.runs.specs.OneSwap.{plain_swap}
 use Rattle.runs.specs.Run.{order_stages, store_stages, run_stages, run_of, numbers}
 use Rattle.runs.specs.Answers.{swaps_in, left_in}
-use Rattle.runs.specs.Theorems.{Startable, run_sizes, run_refuses_only, run_startable, run_usable, run_open, run_within, run_left}
-use Rattle.runs.specs.Theorems.{run_lacks, run_shorts, run_inside}
+use Rattle.runs.specs.Theorems.{Startable}
+use Rattle.runs.proofs.Theorems.{run_sizes, run_refuses_only, run_startable, run_usable, run_open, run_within, run_left}
+use Rattle.runs.proofs.Theorems.{run_lacks, run_shorts, run_inside}
 use Rattle.runs.specs.declared.RunAnswer.{RunAnswer}
 use Rattle.runs.specs.declared.RunAnswer.TheVariants.{Done, NoRoom, LogShort, Paused, Refused}
 

@@ -18,20 +18,21 @@ use Rattle.diagrams.specs.Decode.{decode}
 use Rattle.check_sizes.specs.Sizes.{sizes_if}
 use Rattle.checks.specs.Stages.{FailsFirst, here, later, stage_at, verdict_of, passed_only, clear_only, refused_only}
 use Rattle.checks.specs.Check.{table_stages}
-use Rattle.checks.specs.Theorems.{Bounded, refusal_below, table_bounded}
+use Rattle.checks.specs.Theorems.{Bounded}
+use Rattle.checks.proofs.Theorems.{refusal_below, table_bounded}
 use Rattle.checks.specs.declared.Verdict.{Verdict}
 use Rattle.checks.specs.declared.Verdict.TheVariants as verdict
 use Rattle.undo.specs.Stores.{State}
 use Rattle.undo.specs.Log.{most_log_records, changed, entries_needed, entries_held}
 use Rattle.check_log.specs.BadLog.{LogSizes}
-use Rattle.check_log.specs.Open.{open_sizes}
+use Rattle.check_log.proofs.Open.{open_sizes}
 use Rattle.check_log.specs.Bounds.{open_below}
 use Rattle.swap_rules.specs.Record.{is_free_node, same}
 use Rattle.swap_rules.specs.Swap.{x_at, y_at, both_asked, crossing, is_new, wanted, news, needed, free_count}
 use Rattle.swap_preparing.specs.Table.{needed_in, free_in, fits_in}
 use Rattle.swap_ways.specs.Ways.{lack, short, table_after, entries_for, way_of}
 use Rattle.swaps.specs.Outcome.{no_level, store_stages, swap_stages, swap_after, swap_judged, swap_call, numbers}
-use Rattle.swaps.specs.Entry.{swap_starts}
+use Rattle.swaps.proofs.Entry.{swap_starts}
 use Rattle.swap_ways.specs.declared.Way.TheVariants as way
 
 module _ (T : ℕ → Node) (N x y : ℕ) where

@@ -8,12 +8,15 @@ use Rattle.diagrams.specs.Node.{Node, free, node, ref}
 use Rattle.diagrams.specs.Edition.{Edition, seen}
 use Rattle.swap_rules.specs.Record.{is_free_node, is_used_node, UsedOf, free_false}
 use Rattle.swap_rules.specs.Swap.{crossing, slots, dies, needed, slot_index, filled, record_after, dying_count, used_count}
-use Rattle.swap_rules.specs.Step.{Open, crosses_x}
-use Rattle.swap_rules.specs.Fitting.{Fitting, own_seen}
-use Rattle.swap_rules.specs.Dying.{dies_y, other_lives, free_lives}
-use Rattle.swap_rules.specs.Making.{slots_apart, slot_in}
-use Rattle.swap_rules.specs.Computed.{Case, crosses_now, filled_now, dies_now, stays_now, case}
-use Rattle.swap_rules.specs.Computed.{after_crossed, after_gone, after_kept, filled_open, filled_used, unfilled}
+use Rattle.swap_rules.specs.Step.{Open}
+use Rattle.swap_rules.proofs.Step.{crosses_x}
+use Rattle.swap_rules.specs.Fitting.{Fitting}
+use Rattle.swap_rules.proofs.Fitting.{own_seen}
+use Rattle.swap_rules.proofs.Dying.{dies_y, other_lives, free_lives}
+use Rattle.swap_rules.proofs.Making.{slots_apart, slot_in}
+use Rattle.swap_rules.specs.Computed.{Case, crosses_now, filled_now, dies_now, stays_now}
+use Rattle.swap_rules.proofs.Computed.{case}
+use Rattle.swap_rules.proofs.Computed.{after_crossed, after_gone, after_kept, filled_open, filled_used, unfilled}
 
 used_bit : {m : Node} {v l h : ℕ} → m ≡ node v l h → bit (is_used_node m) ≡ 1
 used_bit e = rw (free_false e)

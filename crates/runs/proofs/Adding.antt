@@ -16,7 +16,8 @@ use Rattle.swap_ways.specs.declared.Way.{Way}
 use Rattle.runs.specs.OneSwap.{OneSwap}
 use Rattle.runs.specs.Run.{relay, run_stages, run_judged, run_call, run_of}
 use Rattle.runs.specs.Answers.{as_one, ran_to, ran_join}
-use Rattle.runs.specs.Theorems.{Startable, run_starts, run_is, run_state, run_restarts}
+use Rattle.runs.specs.Theorems.{Startable}
+use Rattle.runs.proofs.Theorems.{run_starts, run_is, run_state, run_restarts}
 use Rattle.runs.specs.declared.RunAnswer.{RunAnswer}
 use Rattle.runs.specs.declared.RunAnswer.TheVariants.{Refused}
 

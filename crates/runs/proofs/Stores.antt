@@ -15,7 +15,8 @@ use Rattle.slice_rules.specs.Slices.{Relay}
 use Rattle.undo.specs.Stores.{in_log, State, Store, puts, puts_append, puts_both}
 use Rattle.undo.specs.Mending.{puts_long}
 use Rattle.undo.specs.Log.{entry_size, most_log_records, entries_needed, entries_held}
-use Rattle.undo.specs.Counts.{enough, swap_few}
+use Rattle.undo.specs.Counts.{enough}
+use Rattle.undo.proofs.Counts.{swap_few}
 use Rattle.swap_ways.specs.declared.Way.{Way}
 use Rattle.runs.specs.OneSwap.{OneSwap}
 use Rattle.runs.specs.Run.{stores_of, relay, run_stores}

@@ -9,9 +9,10 @@ use Rattle.diagrams.specs.Levels.{level, free_node}
 use Rattle.diagrams.specs.Falls.{value_terminal, value_step, value_agrees}
 use Rattle.swap_rules.specs.Record.{is_of, UsedOf, of_true}
 use Rattle.swap_rules.specs.Swap.{grandchild, crosses}
-use Rattle.swap_rules.specs.Step.{Side, Asked, Kind, kept, crossed, fresh, gone, Serves, OneSwap, grand_of, grand_self, pick_grand}
-use Rattle.swap_rules.specs.Stays.{below, Deep, deep_grand, deep_lives, pick_side, asks, child_lives}
-use Rattle.swap_rules.specs.Graph.{ends_after, root_lives, root_vertex, swap_again}
+use Rattle.swap_rules.specs.Step.{Side, Asked, Kind, kept, crossed, fresh, gone, Serves, OneSwap}
+use Rattle.swap_rules.proofs.Step.{grand_of, grand_self, pick_grand}
+use Rattle.swap_rules.proofs.Stays.{below, Deep, deep_grand, deep_lives, pick_side, asks, child_lives}
+use Rattle.swap_rules.proofs.Graph.{ends_after, root_lives, root_vertex, swap_again}
 
 module _ {Terminal : ℕ → Type 0} {L L' : ℕ → Node} {Root : ℕ → Type 0} {index index' : ℕ → ℕ} {n k x y : ℕ} {X : ℕ → ℕ → ℕ} {dies : ℕ → Bool}
     (W : OneSwap Terminal L L' Root index index' n k x y X dies) (inputs : ℕ → Bool) where

@@ -1,0 +1,13 @@
+pub mod Computed
+pub mod Count
+pub mod Making
+pub mod Stored
+pub mod Theorem
+pub mod Fitting
+pub mod Graph
+pub mod Opposites
+pub mod Stays
+pub mod Step
+pub mod Values
+pub mod Dying
+pub mod Room

@@ -1,0 +1,3 @@
+pub mod Survives
+pub mod Counts
+pub mod Example
