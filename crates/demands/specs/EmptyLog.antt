@@ -241,7 +241,7 @@ module _ {l m : List ℕ} (e : Empty l m) (number : ℕ) (t r o g : List ℕ) (b
       go verdict.Clear c =
           let a = run_starts plain_swap (state t o l) r g number (clear_only (run_stages plain_swap number t r o g l) c) in
           let d =
-              run_starts plain_swap (state t o m) r g number (clear_only (run_stages plain_swap number t r o g m) (sym (run_verdict e number t r o g) ∙ c)) in
+          run_starts plain_swap (state t o m) r g number (clear_only (run_stages plain_swap number t r o g m) (sym (run_verdict e number t r o g) ∙ c)) in
           like_runs number r g a.ready.target budget (state t o l) (state t o m) a d (record { table = refl; order = refl; long = e.long })
       go (verdict.Refused w) c =
           agree_by (ap (λ v. whole (run_judged plain_swap (plan_of number) (state t o l) r g budget v) (state t o l)) c)

@@ -49,5 +49,5 @@ module _ (l : List ℕ) (apart : Apart l) where
   count_places n small (suc m) h =
       let a : get_or l m 0 < n = small (get_or l m 0) (at_mem l m 0 (omega arith)) in
       let b =
-          count_both (λ i. ltb (place_in l i) (suc m)) (λ i. false) (λ i. ltb (place_in l i) m) (eqb (get_or l m 0)) n (λ i q. one_more i m (omega arith)) in
+      count_both (λ i. ltb (place_in l i) (suc m)) (λ i. false) (λ i. ltb (place_in l i) m) (eqb (get_or l m 0)) n (λ i q. one_more i m (omega arith)) in
       omega (arith, count_places n small m (omega arith), count_single (get_or l m 0) n a, count_none (λ i. false) n (λ i q. refl))

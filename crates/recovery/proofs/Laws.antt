@@ -52,7 +52,7 @@ module _ (t o log : List ℕ) (k n : ℕ) where
   unfolding entry_at entry_stores
   back_in_order {x} {o'} {f} {r} e p q w =
       rw (ne_eqb _ 0 e) (spent_as (spent_in in_order (state t o log) w)
-          (ap₂ (λ (m : ℕ) (y : List ℕ). into in_order (run m (get_or y 0 0 ∷ get_or y 1 0 ∷ []))) p q))
+      (ap₂ (λ (m : ℕ) (y : List ℕ). into in_order (run m (get_or y 0 0 ∷ get_or y 1 0 ∷ []))) p q))
 
 -- ---- one after the other
 

@@ -149,7 +149,7 @@ unchanged t u i e j l =
     none_of _ _ _ _ _ _ _ _ e j (λ j. get_or t (record_size * i + j) 0 ≡ get_or u (record_size * i + j) 0)
     (λ q. ap (λ n. get_or t n 0) (add-zero (record_size * i)) ∙ unlike_same t u (record_size * i) q ∙ ap (λ n. get_or u n 0) (sym (add-zero (record_size * i))))
     (unlike_same t u (record_size * i + 1)) (unlike_same t u (record_size * i + 2)) (unlike_same t u (record_size * i + 3)) (unlike_same t u
-        (record_size * i + 4))
+    (record_size * i + 4))
     (unlike_same t u (record_size * i + 5)) (unlike_same t u (record_size * i + 6)) (unlike_same t u (record_size * i + 7)) l
 
 -- what is written where
