@@ -13,6 +13,7 @@ use Rattle.plans.specs.Plans.{Plan}
 use Rattle.plans.specs.Numbered.{plan_of, no_plan}
 use Rattle.plans.proofs.NumberedLaws.{plan_of_lawful}
 use Rattle.slice_rules.specs.Slices as over
+use Rattle.slice_rules.proofs.Slices as over_laws
 use Rattle.slice_rules.specs.Slices.{Relay}
 use Rattle.check_sizes.specs.Sizes.{bad_sizes}
 use Rattle.checks.specs.Stages.{Stage, stage_at, only, refusal, verdict_from, verdict_of, clear_only}
@@ -157,7 +158,7 @@ module _ (number : ℕ) (r g : List ℕ) (permuted : Permutation g) where
     next = over.next R plan g z
 
     fits : (next + 1 < length g) × (over.fits R z next ≡ true)
-    fits = over.planned_fits R plan g Fine (relay_laws plain_swap r (length g)) (plan_of_lawful number) permuted z f e
+    fits = over_laws.planned_fits R plan g Fine (relay_laws plain_swap r (length g)) (plan_of_lawful number) permuted z f e
 
     after_table : (over.stepped R plan g z).table ≡ table_after z.table r z.order next
     unfolding relay
@@ -172,7 +173,7 @@ module _ (number : ℕ) (r g : List ℕ) (permuted : Permutation g) where
     after_log = puts_long (stores_of plain_swap r z next) z in_log
 
     after_fine : Fine (over.stepped R plan g z)
-    after_fine = over.good_stepped R plan g Fine (relay_laws plain_swap r (length g)) (plan_of_lawful number) permuted z f e
+    after_fine = over_laws.good_stepped R plan g Fine (relay_laws plain_swap r (length g)) (plan_of_lawful number) permuted z f e
 
   next_same : {x y : State} → Like x y → over.next R plan g x ≡ over.next R plan g y
   unfolding over.next relay
@@ -208,13 +209,13 @@ module _ (number : ℕ) (r g : List ℕ) (permuted : Permutation g) where
       by true e h =
           let (p, q) = h e in
           let d : over.goes R plan g y ≡ true = sym (like_goes k) ∙ e in (
-            rw (over.leaves_goes R plan g b x e, over.leaves_goes R plan g b y d) p,
-            over.made_goes R plan g b x e ∙ ap suc q ∙ sym (over.made_goes R plan g b y d),
+            rw (over_laws.leaves_goes R plan g b x e, over_laws.leaves_goes R plan g b y d) p,
+            over_laws.made_goes R plan g b x e ∙ ap suc q ∙ sym (over_laws.made_goes R plan g b y d),
           )
       by false e h =
           let d : over.goes R plan g y ≡ false = sym (like_goes k) ∙ e in (
-            rw (over.leaves_rests R plan g (suc b) x e, over.leaves_rests R plan g (suc b) y d) k,
-            over.made_rests R plan g (suc b) x e ∙ sym (over.made_rests R plan g (suc b) y d),
+            rw (over_laws.leaves_rests R plan g (suc b) x e, over_laws.leaves_rests R plan g (suc b) y d) k,
+            over_laws.made_rests R plan g (suc b) x e ∙ sym (over_laws.made_rests R plan g (suc b) y d),
           )
 
   -- so two runs that start from such states agree

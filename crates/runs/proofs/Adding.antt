@@ -5,6 +5,7 @@ use Rattle.std.proofs.Math.Path.{ap}
 use Rattle.std.proofs.Common.{sym, ◌∙◌, add-zero}
 use Rattle.plans.specs.Numbered.{plan_of}
 use Rattle.slice_rules.specs.Slices as over
+use Rattle.slice_rules.proofs.Slices as over_laws
 use Rattle.slice_rules.specs.Slices.{SliceOf}
 use Rattle.checks.specs.Stages.{verdict_of, clear_only}
 use Rattle.checks.specs.declared.Refusal.{Refusal}
@@ -43,7 +44,7 @@ module _ (W : OneSwap) (number : ℕ) (r g : List ℕ) where
         ap (as_one (run_of W number s r g a)) (run_next a b)
         ∙ ap (λ w. as_one w (ran_to (S b (S a s).state))) (run_is W number s r g starts a)
         ∙ ran_join (S a s) (S b (S a s).state)
-        ∙ ap ran_to (over.slice_add (relay W r) (plan_of number) g a b s)
+        ∙ ap ran_to (over_laws.slice_add (relay W r) (plan_of number) g a b s)
         ∙ sym (run_is W number s r g starts (a + b))
 
   -- a refused run changes nothing, and so is refused again, whatever the budget

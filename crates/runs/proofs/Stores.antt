@@ -11,6 +11,7 @@ use Rattle.std.proofs.lemmas.List.{take-append-le}
 use Rattle.lists.specs.Says.{either_side}
 use Rattle.plans.specs.Plans.{Plan}
 use Rattle.slice_rules.specs.Slices as over
+use Rattle.slice_rules.proofs.Slices as over_laws
 use Rattle.slice_rules.specs.Slices.{Relay}
 use Rattle.undo.specs.Stores.{in_log, State, Store, puts, puts_append, puts_both}
 use Rattle.undo.specs.Mending.{puts_long}
@@ -61,13 +62,13 @@ module _ (W : OneSwap) (plan : Plan) (r g : List ℕ) where
   stores_leave =
       by_swaps (λ b s. puts (S b s) s ≡ over.leaves R plan g b s)
       (λ s. refl)
-      (λ b s e. ap (λ (l : List Store). puts l s) (stores_rest (suc b) s e) ∙ sym (over.leaves_rests R plan g (suc b) s e))
+      (λ b s e. ap (λ (l : List Store). puts l s) (stores_rest (suc b) s e) ∙ sym (over_laws.leaves_rests R plan g (suc b) s e))
       (λ b s e h.
       ap (λ (l : List Store). puts l s) (stores_go b s e)
       ∙ puts_append (next_stores s) (S b (over.stepped R plan g s)) s
       ∙ ap (puts (S b (over.stepped R plan g s))) (sym (stepped_is s))
       ∙ h
-      ∙ sym (over.leaves_goes R plan g b s e))
+      ∙ sym (over_laws.leaves_goes R plan g b s e))
 
   -- those of two budgets
   pub stores_add : (a b : ℕ) (s : State) → S (a + b) s ≡ S a s ++ S b (over.leaves R plan g a s)
@@ -77,13 +78,13 @@ module _ (W : OneSwap) (plan : Plan) (r g : List ℕ) where
       (λ s. ap (λ n. S n s) (zero-add b))
       (λ a s e.
       stores_rest (suc a + b) s e
-      ∙ sym (ap₂ (λ (l : List Store) (z : State). l ++ S b z) (stores_rest (suc a) s e) (over.leaves_rests R plan g (suc a) s e) ∙ stores_rest b s e))
+      ∙ sym (ap₂ (λ (l : List Store) (z : State). l ++ S b z) (stores_rest (suc a) s e) (over_laws.leaves_rests R plan g (suc a) s e) ∙ stores_rest b s e))
       (λ a s e h.
       ap (λ n. S n s) (suc-add a b)
       ∙ stores_go (a + b) s e
       ∙ ap (λ (l : List Store). next_stores s ++ l) h
       ∙ sym (append_assoc (next_stores s) (S a (over.stepped R plan g s)) (S b (over.leaves R plan g a (over.stepped R plan g s))))
-      ∙ sym (ap₂ (λ (l : List Store) (z : State). l ++ S b z) (stores_go a s e) (over.leaves_goes R plan g a s e)))
+      ∙ sym (ap₂ (λ (l : List Store) (z : State). l ++ S b z) (stores_go a s e) (over_laws.leaves_goes R plan g a s e)))
       a
 
   -- the log holds the entries of a swap that nothing stands in the way of
@@ -107,7 +108,7 @@ module _ (W : OneSwap) (plan : Plan) (r g : List ℕ) where
       next_few : (s : State) → over.goes R plan g s ≡ true → length s.log ≤ entry_size * most_log_records → length (next_stores s) < enough
       next_few s e l =
           let k = over.next R plan g s in
-          swap_few s (W.table_after s.table r s.order k) k (fits_then s (over.goes_on R plan g s e).1) l
+          swap_few s (W.table_after s.table r s.order k) k (fits_then s (over_laws.goes_on R plan g s e).1) l
 
   -- ---- the first f of them
 
@@ -120,10 +121,10 @@ module _ (W : OneSwap) (plan : Plan) (r g : List ℕ) where
 
   one_more : {b : ℕ} {s a : State} → over.goes R plan g s ≡ true → CutAt b (over.stepped R plan g s) a → CutAt (suc b) s a
   one_more {b} {s} {a} e (between m l c p) =
-      between (suc m) (suc-le-suc l) (over.made_goes R plan g m s e ∙ ap suc c) (p ∙ sym (over.leaves_goes R plan g m s e))
+      between (suc m) (suc-le-suc l) (over_laws.made_goes R plan g m s e ∙ ap suc c) (p ∙ sym (over_laws.leaves_goes R plan g m s e))
   one_more {b} {s} {a} e (within m f l c h k p) =
-      let z = over.leaves_goes R plan g m s e in
-      within (suc m) f (suc-le-suc l) (over.made_goes R plan g m s e ∙ ap suc c) (rw z h) (rw z k) (rw z p)
+      let z = over_laws.leaves_goes R plan g m s e in
+      within (suc m) f (suc-le-suc l) (over_laws.made_goes R plan g m s e ∙ ap suc c) (rw z h) (rw z k) (rw z p)
 
   pub cut_at : (b : ℕ) (s : State) (f : ℕ) → CutAt b s (puts (take f (S b s)) s)
   unfolding run_stores puts over.leaves over.made

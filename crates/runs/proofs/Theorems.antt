@@ -16,6 +16,7 @@ use Rattle.plans.specs.Plans.{Plan, Lawful, reached}
 use Rattle.plans.specs.Numbered.{plan_of, no_plan}
 use Rattle.plans.proofs.NumberedLaws.{plan_of_lawful}
 use Rattle.slice_rules.specs.Slices as over
+use Rattle.slice_rules.proofs.Slices as over_laws
 use Rattle.slice_rules.specs.Slices.{Relay, RelayLaws, meets}
 use Rattle.check_sizes.specs.Sizes.{Sizes, sizes_if, sizes_then, bad_sizes}
 use Rattle.checks.specs.Stages.{Stage, AllPass, none, also, both_rows, rows_pass, stage_at, only_passed, passed_only}
@@ -228,7 +229,7 @@ module _ (W : OneSwap) (number : ℕ) (s₀ : State) (r g : List ℕ) (starts : 
   laws = relay_laws W r (length g)
 
   pub good_end : (b : ℕ) → Good W r (length g) (end b)
-  good_end b = over.good_after R plan g (Good W r (length g)) laws lawful starts.ready.target b s₀ good_start
+  good_end b = over_laws.good_after R plan g (Good W r (length g)) laws lawful starts.ready.target b s₀ good_start
 
   pub run_state : (b : ℕ) → (ran b).state ≡ end b
   unfolding ran_to over.slice
@@ -264,14 +265,14 @@ module _ (W : OneSwap) (number : ℕ) (s₀ : State) (r g : List ℕ) (starts : 
   -- where the order isn't the target, the plan's next pair of levels is in the order
   next_inside : (s : State) → Good W r (length g) s → over.arrived R plan g s ≡ false → over.next R plan g s + 1 < length s.order
   unfolding relay
-  next_inside s w e = (over.next_inversion R plan g (Good W r (length g)) laws lawful starts.ready.target s w e).within
+  next_inside s w e = (over_laws.next_inversion R plan g (Good W r (length g)) laws lawful starts.ready.target s w e).within
 
   -- each swap that a run makes is Swap's, with the same stores
   pub goes_made : (s : State) → Good W r (length g) s → over.goes R plan g s ≡ true
       → W.swap_call s r (over.next R plan g s) ≡ record { answer = swap.Made; stores = stores_of W r s (over.next R plan g s) }
   unfolding relay
   goes_made s w e =
-      let (a, f) = over.goes_on R plan g s e in
+      let (a, f) = over_laws.goes_on R plan g s e in
       W.swap_clear s r (over.next R plan g s) w.usable (next_inside s w a) w.log_open f
 
   -- and it is ready for them
@@ -279,7 +280,7 @@ module _ (W : OneSwap) (number : ℕ) (s₀ : State) (r g : List ℕ) (starts : 
       → Ready s (W.table_after s.table r s.order (over.next R plan g s)) (over.next R plan g s)
   unfolding relay
   next_ready s w e =
-      let (a, f) = over.goes_on R plan g s e in
+      let (a, f) = over_laws.goes_on R plan g s e in
       good_ready W r (length g) s (over.next R plan g s) w (rw w.long at (next_inside s w a)) f
 
   -- what holds of every root, of a state on the way
@@ -292,7 +293,7 @@ module _ (W : OneSwap) (number : ℕ) (s₀ : State) (r g : List ℕ) (starts : 
   unfolding relay
   keeps_stepped s w e =
       let k : ℕ = over.next R plan g s in
-      let (a, f) = over.goes_on R plan g s e in
+      let (a, f) = over_laws.goes_on R plan g s e in
       let level : k + 1 < length s.order = next_inside s w.good a in
       let inside : k + 1 < length g = rw w.good.long at level in
       let table = table_after_lem W r (length g) s k w.good inside f in
@@ -307,7 +308,7 @@ module _ (W : OneSwap) (number : ℕ) (s₀ : State) (r g : List ℕ) (starts : 
       → W.root_value (ran b).state.table r (length s₀.order) inputs position ≡ W.root_value s₀.table r (length s₀.order) inputs position
   run_root_value b inputs position l =
       let start : Keeps s₀ = record { good = good_start; values = λ inputs position l. refl } in
-      rw (run_table b, ← starts.ready.long) ((over.carried R plan g Keeps keeps_stepped b s₀ start).values inputs position l)
+      rw (run_table b, ← starts.ready.long) ((over_laws.carried R plan g Keeps keeps_stepped b s₀ start).values inputs position l)
 
   -- ---- the numbers
 
@@ -318,20 +319,20 @@ module _ (W : OneSwap) (number : ℕ) (s₀ : State) (r g : List ℕ) (starts : 
   -- the order is the plan's, after exactly as many swaps as the answer says
   pub run_orders : (b : ℕ) → (ran b).state.order ≡ reached plan g (swaps_in (ran b).answer) s₀.order
   unfolding relay
-  run_orders b = run_order b ∙ over.planned R plan g (Good W r (length g)) laws lawful starts.ready.target b s₀ good_start ∙ rw (run_made b)
+  run_orders b = run_order b ∙ over_laws.planned R plan g (Good W r (length g)) laws lawful starts.ready.target b s₀ good_start ∙ rw (run_made b)
 
   -- the buffers left are those of a run with a budget of just as many swaps
   pub run_buffers : (b : ℕ) → (ran b).state ≡ (ran (swaps_in (ran b).answer)).state
   run_buffers b =
-      run_state b ∙ over.leaves_made R plan g b s₀ ∙ ap end (sym (run_made b)) ∙ sym (run_state (swaps_in (ran b).answer))
+      run_state b ∙ over_laws.leaves_made R plan g b s₀ ∙ ap end (sym (run_made b)) ∙ sym (run_state (swaps_in (ran b).answer))
 
   pub run_none : (b : ℕ) → swaps_in (ran b).answer ≡ 0 → (ran b).state ≡ s₀
   unfolding over.leaves
-  run_none b e = run_state b ∙ over.leaves_made R plan g b s₀ ∙ ap end (sym (run_made b) ∙ e)
+  run_none b e = run_state b ∙ over_laws.leaves_made R plan g b s₀ ∙ ap end (sym (run_made b) ∙ e)
 
   -- no more swaps than the budget
   pub run_within : (b : ℕ) → swaps_in (ran b).answer ≤ b
-  run_within b = rw (run_made b) (over.made_small R plan g b s₀)
+  run_within b = rw (run_made b) (over_laws.made_small R plan g b s₀)
 
   -- left is that of the order left
   pub run_left : (b : ℕ) → left_in (ran b).answer ≡ left (ran b).state.order g
@@ -341,7 +342,7 @@ module _ (W : OneSwap) (number : ℕ) (s₀ : State) (r g : List ℕ) (starts : 
   -- the fall in left is the number of swaps
   pub run_fall : (b : ℕ) → left (ran b).state.order g + swaps_in (ran b).answer ≡ left s₀.order g
   unfolding relay
-  run_fall b = rw (run_order b, run_made b) (over.fall R plan g (Good W r (length g)) laws lawful starts.ready.target b s₀ good_start)
+  run_fall b = rw (run_order b, run_made b) (over_laws.fall R plan g (Good W r (length g)) laws lawful starts.ready.target b s₀ good_start)
 
   -- ---- each answer, judged on the buffers left
 
@@ -355,20 +356,20 @@ module _ (W : OneSwap) (number : ℕ) (s₀ : State) (r g : List ℕ) (starts : 
 
   arrived_says : (b : ℕ) → Says (over.arrived R plan g (end b)) ((ran b).state.order ≡ g)
   unfolding relay
-  arrived_says b = rw (run_order b) (over.arrived_says R plan g (Good W r (length g)) laws lawful starts.ready.target (end b) (good_end b))
+  arrived_says b = rw (run_order b) (over_laws.arrived_says R plan g (Good W r (length g)) laws lawful starts.ready.target (end b) (good_end b))
 
   -- it is done where the order left is the target
   pub run_arrives : (b : ℕ) → (ran b).state.order ≡ g → (ran b).answer ≡ Done (swaps_in (ran b).answer) 0
   unfolding answer_of
   run_arrives b e =
       run_judged_lem b
-      ∙ ap (answer_of (swaps_in (ran b).answer) (left (ran b).state.order g)) (over.arrived_done R plan g (end b) ((arrived_says b).no e))
+      ∙ ap (answer_of (swaps_in (ran b).answer) (left (ran b).state.order g)) (over_laws.arrived_done R plan g (end b) ((arrived_says b).no e))
       ∙ ap (Done (swaps_in (ran b).answer)) (ap (λ p. left p g) e ∙ left_same g)
 
   meets_met : (b : ℕ) → ((ran b).state.order ≡ g → ⊥) → over.judge R plan g (end b) ≡ meets (met b)
   unfolding over.next relay
   meets_met b n =
-      over.meets_next R plan g (end b) (denies (arrived_says b) n)
+      over_laws.meets_next R plan g (end b) (denies (arrived_says b) n)
       ∙ ap (λ (s : State). meets (W.way_of s.table r s.order (entries_held s.log) (plan s.order g))) (sym (run_state b))
 
   -- otherwise the answer is what stands in the way of the plan's next swap
@@ -385,14 +386,14 @@ module _ (W : OneSwap) (number : ℕ) (s₀ : State) (r g : List ℕ) (starts : 
   met_only : (b : ℕ) (w : Way) → over.judge R plan g (end b) ≡ meets w → ((ran b).state.order ≡ g → ⊥) × (met b ≡ w)
   unfolding over.next relay
   met_only b w e =
-      let (a, q) = over.meets_only R plan g (end b) w e in
+      let (a, q) = over_laws.meets_only R plan g (end b) w e in
       (refutes (arrived_says b) a, ap (λ (s : State). W.way_of s.table r s.order (entries_held s.log) (plan s.order g)) (run_state b) ∙ sym q)
 
   -- done: the target is reached, and as many swaps were made as there were inversions
   pub run_done : (b m l : ℕ) → (ran b).answer ≡ Done m l → ((ran b).state.order ≡ g) × (m ≡ left s₀.order g) × (l ≡ 0)
   run_done b m l e =
       let (j, p, q) = answer_done _ _ _ m l (sym (run_judged_lem b) ∙ e) in
-      let order : (ran b).state.order ≡ g = (arrived_says b).yes (over.done_arrived R plan g (end b) j) in
+      let order : (ran b).state.order ≡ g = (arrived_says b).yes (over_laws.done_arrived R plan g (end b) j) in
       let none : left (ran b).state.order g ≡ 0 = ap (λ x. left x g) order ∙ left_same g in
       (order, omega (arith, p, none, run_fall b), q ∙ none)
 
@@ -437,7 +438,7 @@ module _ (W : OneSwap) (number : ℕ) (s₀ : State) (r g : List ℕ) (starts : 
   run_paused b m l e =
       let (j, p, q) = answer_paused _ _ _ m l (sym (run_judged_lem b) ∙ e) in
       let (n, w) = met_only b way.Clear j in
-      (n, w, p ∙ run_made b ∙ over.paused_budget R plan g b s₀ way.Clear j refl)
+      (n, w, p ∙ run_made b ∙ over_laws.paused_budget R plan g b s₀ way.Clear j refl)
 
   -- each run spends its whole budget or ends in done or no room
   pub run_spends : (b : ℕ) → (swaps_in (ran b).answer ≡ b) ⊎ ((m l : ℕ) → (ran b).answer ≡ Paused m l → ⊥)
@@ -452,9 +453,9 @@ module _ (W : OneSwap) (number : ℕ) (s₀ : State) (r g : List ℕ) (starts : 
   unfolding relay
   run_enough b m l h e =
       let (j, p, q) = answer_paused _ _ _ m l (sym (run_judged_lem b) ∙ e) in
-      let (a, w) = over.meets_only R plan g (end b) way.Clear j in
-      let still = over.enough R plan g (Good W r (length g)) laws lawful starts.ready.target b s₀ good_start h in
-      clash (over.goes_if R plan g (end b) a (ap is_clear (sym w))) still
+      let (a, w) = over_laws.meets_only R plan g (end b) way.Clear j in
+      let still = over_laws.enough R plan g (Good W r (length g)) laws lawful starts.ready.target b s₀ good_start h in
+      clash (over_laws.goes_if R plan g (end b) a (ap is_clear (sym w))) still
 
 -- ---- no run makes more stores than the library has fuel for
 

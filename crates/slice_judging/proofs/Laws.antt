@@ -13,6 +13,7 @@ use Rattle.plans.specs.Plans.{Plan, same?}
 use Rattle.plans.specs.Numbered.{meant}
 use Rattle.plans.specs.declared.Plan as coded
 use Rattle.slice_rules.specs.Slices as over
+use Rattle.slice_rules.proofs.Slices as over_laws
 use Rattle.undo.specs.Stores.{State, state}
 use Rattle.undo.specs.Log.{entries_held}
 use Rattle.swap_ways.specs.Ways.{way_of}
@@ -53,7 +54,7 @@ module _ (name : coded.Plan) {t r o log : List ℕ} {order goal : Order} {n : �
       judge_meets =
           ap₂ (answer_of swaps) (counted ∙ ap (λ x. left x g) (sym d.bytes))
           (ap over.meets (asked ∙ ap₂ (λ (h i : ℕ). way_of t r o h i) holds (next_is plan d planned))
-          ∙ sym (over.meets_next (relay plain_swap r) plan g s (sym (arrived_as plan d same) ∙ apart)))
+          ∙ sym (over_laws.meets_next (relay plain_swap r) plan g s (sym (arrived_as plan d same) ∙ apart)))
 
       pub judge_stuck : {lack : Lack} → w ≡ way.NoRoom lack → NoRoom swaps l lack ≡ judged_on plain_swap plan s r g swaps
       unfolding answer_of

@@ -19,6 +19,7 @@ use Rattle.plans.specs.Plans.{Plan, same?}
 use Rattle.plans.specs.Numbered.{plan_of, meant}
 use Rattle.plans.specs.declared.Plan as coded
 use Rattle.slice_rules.specs.Slices as over
+use Rattle.slice_rules.proofs.Slices as over_laws
 use Rattle.slice_rules.specs.Slices.{Relay}
 use Rattle.slice_rules.proofs.Slices.{slicing_begins, slicing_goes, slicing_rests, slicing_ends}
 use Rattle.check_sizes.specs.Sizes.{TableSizes, sized}
@@ -164,7 +165,7 @@ module _ (name : coded.Plan) where
 
   -- at i swaps of the budget, all of them whole
   pub record Driving (t₀ r o₀ log₀ : List ℕ) (goal : Order) (n budget f : ℕ) (t o log : List ℕ) (order : Order) (i left : ℕ) : Type 0 where
-    pub so_far : over.Slicing (relay plain_swap r) P (bytes_of goal n) (state t₀ o₀ log₀) budget i (state t o log)
+    pub so_far : over_laws.Slicing (relay plain_swap r) P (bytes_of goal n) (state t₀ o₀ log₀) budget i (state t o log)
     pub spent : Spent f (run_stores plain_swap P r (bytes_of goal n) i (state t₀ o₀ log₀)) (state t₀ o₀ log₀) (state t o log) left
     pub drivable : Drivable t r o log order goal n
     pub long_t : length t ≡ length t₀
@@ -285,12 +286,12 @@ module _ (name : coded.Plan) where
 
         clear : is_clear (way_of t r o (entries_held log) k) ≡ true
         unfolding relay
-        clear = (over.goes_on R P target now_at goes).1
+        clear = (over_laws.goes_on R P target now_at goes).1
 
         inside : k + 1 < length o
         unfolding over.next over.arrived relay
         inside =
-            let apart : same? (bytes_of order n) target ≡ false = rw d.drivable.bytes at (over.goes_on R P target now_at goes).0 in
+            let apart : same? (bytes_of order n) target ≡ false = rw d.drivable.bytes at (over_laws.goes_on R P target now_at goes).0 in
             plan_in_order d.drivable name refl apart (ap (λ x. P x target) d.drivable.bytes)
 
         ready : Ready now_at (table_after t r o k) k

@@ -6,6 +6,7 @@ use Rattle.orders.specs.Arranged.{bytes_of, Arranged}
 use Rattle.orders.specs.declared.Order.{Order}
 use Rattle.plans.specs.Plans.{Plan}
 use Rattle.slice_rules.specs.Slices as over
+use Rattle.slice_rules.proofs.Slices as over_laws
 use Rattle.undo.specs.Stores.{State}
 use Rattle.undo.specs.Calls.{Call, cut}
 use Rattle.undo.specs.Wrote.{Spent}
@@ -35,7 +36,7 @@ module _ (W : OneSwap) (plan : Plan) where
   -- all of them, cut after f stores; what was reached is known where fuel is left
   pub record Driven (s : State) (r : List ℕ) (goal : Order) (n budget f : ℕ) (l : Reached) (s' : State) : Type 0 where
     pub spent : Spent f (run_stores W plan r (bytes_of goal n) budget s) s s' l.fuel
-    pub sliced : 0 < l.fuel → over.Sliced (relay W r) plan (bytes_of goal n) s budget l.swaps s'
+    pub sliced : 0 < l.fuel → over_laws.Sliced (relay W r) plan (bytes_of goal n) s budget l.swaps s'
     pub judgeable : Judgeable s'.table r s'.order s'.log l goal n
 
 -- a call that is cut after f stores; its answer is known where they were all made, and fuel is left
