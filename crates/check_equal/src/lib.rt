@@ -2,7 +2,7 @@
 #![tactic(auto)]
 
 ghost use Rattle.std.specs.Prelude.{◌≡◌};
-ghost use Rattle.lists.specs.First.{first};
+ghost use Rattle.lists.specs.Found.{found};
 ghost use Rattle.diagrams.specs.Layout.{records, InTable};
 ghost use Rattle.check_equal.specs.Equal.{low_is_high};
 
@@ -17,16 +17,8 @@ fn is_low_high(table: &[u8], i: RecordNumber) -> bool
     i.is_used(table) & (low.0 == high.0)
 }
 
-pub fn first_low_is_high(table: &[u8]) -> usize
-    ensures { result ≡ first (low_is_high table.now) (records table.now) }
+pub fn first_low_is_high(table: &[u8]) -> Option<usize>
+    ensures { result ≡ found (low_is_high table.now) (records table.now) }
 {
-    let m = diagrams::count_records(table);
-    let mut i = 0;
-    while i < m {
-        if is_low_high(table, RecordNumber(i)) {
-            return i;
-        }
-        i += 1;
-    }
-    m
+    (0..diagrams::count_records(table)).find(|&i| is_low_high(table, RecordNumber(i)))
 }

@@ -3,7 +3,7 @@
 #![tactic(auto)]
 
 ghost use Rattle.std.specs.Prelude.{◌≡◌, ◌+◌, ◌<◌, ◌≤◌, length, set};
-ghost use Rattle.lists.specs.First.{first};
+ghost use Rattle.lists.specs.Found.{found};
 ghost use Rattle.lists.specs.Fold.{fold};
 ghost use Rattle.diagrams.specs.Layout.{most_records, records, root_count, InTable, InRoots};
 ghost use Rattle.diagrams.specs.Noting.{no_notes};
@@ -40,11 +40,8 @@ fn mark_record(marks: &mut [u8], table: &[u8], i: RecordNumber)
 fn mark_records(marks: &mut [u8], table: &[u8])
     ensures { marks.new ≡ fold (marked_record table.now) marks.old (records table.now) }
 {
-    let m = diagrams::count_records(table);
-    let mut i = 0;
-    while i < m {
+    for i in 0..diagrams::count_records(table) {
         mark_record(marks, table, RecordNumber(i));
-        i += 1;
     }
 }
 
@@ -58,11 +55,8 @@ fn mark_root(marks: &mut [u8], roots: &[u8], k: usize)
 fn mark_roots(marks: &mut [u8], roots: &[u8])
     ensures { marks.new ≡ fold (marked_root roots.now) marks.old (root_count roots.now) }
 {
-    let m = diagrams::count_roots(roots);
-    let mut k = 0;
-    while k < m {
+    for k in 0..diagrams::count_roots(roots) {
         mark_root(marks, roots, k);
-        k += 1;
     }
 }
 
@@ -74,24 +68,16 @@ fn is_unmarked(table: &[u8], marks: &[u8], i: RecordNumber) -> bool
     i.is_used(table) & !(marks[at] == 1)
 }
 
-fn first_unmarked(table: &[u8], marks: &[u8]) -> usize
+fn first_unmarked(table: &[u8], marks: &[u8]) -> Option<usize>
     requires { (records table.now + 2 ≤ length marks.now) × (records table.now ≤ most_records) }
-    ensures { result ≡ first (unmarked table.now marks.now) (records table.now) }
+    ensures { result ≡ found (unmarked table.now marks.now) (records table.now) }
 {
-    let m = diagrams::count_records(table);
-    let mut i = 0;
-    while i < m {
-        if is_unmarked(table, marks, RecordNumber(i)) {
-            return i;
-        }
-        i += 1;
-    }
-    m
+    (0..diagrams::count_records(table)).find(|&i| is_unmarked(table, marks, RecordNumber(i)))
 }
 
-pub fn first_idle(table: &[u8], roots: &[u8]) -> usize
+pub fn first_idle(table: &[u8], roots: &[u8]) -> Option<usize>
     requires { records table.now ≤ most_records }
-    ensures { result ≡ first (idle table.now roots.now) (records table.now) }
+    ensures { result ≡ found (idle table.now roots.now) (records table.now) }
 {
     let mut marks = no_marks();
     mark_roots(&mut marks, roots);
