@@ -2,62 +2,67 @@
 #![tactic(auto)]
 
 ghost use Rattle.std.specs.Prelude.{◌≡◌, ◌≤◌, length};
-ghost use Rattle.lists.specs.First.{first};
+ghost use Rattle.lists.specs.Found.{found};
 ghost use Rattle.diagrams.specs.Layout.{records, InTable};
 ghost use Rattle.orders.specs.Permutation.{ceiling, Permutation, level_of};
 ghost use Rattle.orders.specs.Order.{level_in};
 ghost use Rattle.check_levels.specs.Levels.{not_under, not_below};
 
-use diagrams::{RecordNumber, Reference};
+use diagrams::{RecordNumber, Reference, Variable};
 use orders::{Order, level_in};
 
-// Is it the reference of a record that is not below `level`?
-fn is_not_under(
-    table: &[u8],
-    levels: &[u8; Order::CEILING],
+// The level of each of the n variables of an order. It is lent: by value it would be copied at each call.
+#[derive(Drop)]
+struct Levels {
+    levels: [u8; Order::CEILING],
     n: usize,
-    level: usize,
-    x: Reference,
-) -> bool
-    requires { n ≤ ceiling }
-    ensures { result ≡ not_under table.now (level_in levels.now n) level x.0 }
-{
-    if x.names_record(table) {
-        return level_in(levels, n, x.record().variable(table)) <= level;
-    }
-    false
+    ghost few: { n ≤ ceiling },
 }
 
-fn is_not_below(table: &[u8], levels: &[u8; Order::CEILING], n: usize, i: RecordNumber) -> bool
-    requires { InTable table.now i.0 × (n ≤ ceiling) }
-    ensures { result ≡ not_below table.now (level_in levels.now n) i.0 }
-{
-    let level = level_in(levels, n, i.variable(table));
-    i.is_used(table)
-        & (is_not_under(table, levels, n, level, i.low(table))
-            | is_not_under(table, levels, n, level, i.high(table)))
-}
-
-fn first_not_below_in(table: &[u8], levels: &[u8; Order::CEILING], n: usize) -> usize
-    requires { n ≤ ceiling }
-    ensures { result ≡ first (not_below table.now (level_in levels.now n)) (records table.now) }
-{
-    let m = diagrams::count_records(table);
-    let mut i = 0;
-    while i < m {
-        if is_not_below(table, levels, n, RecordNumber(i)) {
-            return i;
+impl Levels {
+    // Of an order as it is stored.
+    fn load(order: &[u8]) -> Levels
+        requires { (length order.now ≤ ceiling) × Permutation order.now }
+        ensures { level_in result.levels result.n ≡ level_of order.now }
+    {
+        let levels = Order::load(order).levels;
+        Levels {
+            levels,
+            n: order.len(),
         }
-        i += 1;
     }
-    m
+
+    // n where v is none of the variables.
+    fn level_of(&self, v: Variable) -> usize
+        ensures { result ≡ level_in self.now.levels self.now.n v.0 }
+    {
+        level_in(&self.levels, self.n, v)
+    }
+
+    // Does x name a record that is not below `level`?
+    #[tactic(auto, unfolding(crate::specs::Levels::not_under), using(diagrams::specs::References::naming))]
+    fn is_not_under(&self, table: &[u8], level: usize, x: Reference) -> bool
+        ensures { result ≡ not_under table.now (level_in self.now.levels self.now.n) level x.0 }
+    {
+        x.names_record(table) && self.level_of(x.record().variable(table)) <= level
+    }
+
+    #[tactic(auto, unfolding(crate::specs::Levels::not_below))]
+    fn is_not_below(&self, table: &[u8], i: RecordNumber) -> bool
+        requires { InTable table.now i.0 }
+        ensures { result ≡ not_below table.now (level_in self.now.levels self.now.n) i.0 }
+    {
+        let level = self.level_of(i.variable(table));
+        i.is_used(table)
+            && (self.is_not_under(table, level, i.low(table))
+                || self.is_not_under(table, level, i.high(table)))
+    }
 }
 
-// The same, of an order as it is stored. Its levels are lent: an order by value would be copied at each call.
-pub fn first_not_below(table: &[u8], order: &[u8]) -> usize
+pub fn first_not_below(table: &[u8], order: &[u8]) -> Option<usize>
     requires { (length order.now ≤ ceiling) × Permutation order.now }
-    ensures { result ≡ first (not_below table.now (level_of order.now)) (records table.now) }
+    ensures { result ≡ found (not_below table.now (level_of order.now)) (records table.now) }
 {
-    let levels = Order::load(order).levels;
-    first_not_below_in(table, &levels, order.len())
+    let levels = Levels::load(order);
+    (0..diagrams::count_records(table)).find(|&i| levels.is_not_below(table, RecordNumber(i)))
 }
