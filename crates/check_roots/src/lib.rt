@@ -2,10 +2,11 @@
 #![tactic(auto)]
 
 ghost use Rattle.std.specs.Prelude.{◌≡◌};
-ghost use Rattle.lists.specs.First.{first};
+ghost use Rattle.lists.specs.Found.{found};
 ghost use Rattle.diagrams.specs.Layout.{root_count, InRoots};
 ghost use Rattle.check_roots.specs.Roots.{dead_root};
 
+#[tactic(auto, unfolding(crate::specs::Roots::dead_root))]
 fn is_dead_root(table: &[u8], roots: &[u8], k: usize) -> bool
     requires { InRoots roots.now k }
     ensures { result ≡ dead_root table.now roots.now k }
@@ -13,16 +14,8 @@ fn is_dead_root(table: &[u8], roots: &[u8], k: usize) -> bool
     diagrams::root(roots, k).is_dead(table)
 }
 
-pub fn first_dead_root(table: &[u8], roots: &[u8]) -> usize
-    ensures { result ≡ first (dead_root table.now roots.now) (root_count roots.now) }
+pub fn first_dead_root(table: &[u8], roots: &[u8]) -> Option<usize>
+    ensures { result ≡ found (dead_root table.now roots.now) (root_count roots.now) }
 {
-    let m = diagrams::count_roots(roots);
-    let mut k = 0;
-    while k < m {
-        if is_dead_root(table, roots, k) {
-            return k;
-        }
-        k += 1;
-    }
-    m
+    (0..diagrams::count_roots(roots)).find(|&k| is_dead_root(table, roots, k))
 }
