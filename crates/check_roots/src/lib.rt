@@ -3,19 +3,11 @@
 
 ghost use Rattle.std.specs.Prelude.{◌≡◌};
 ghost use Rattle.lists.specs.Found.{found};
-ghost use Rattle.diagrams.specs.Layout.{root_count, InRoots};
+ghost use Rattle.diagrams.specs.Layout.{root_count};
 ghost use Rattle.check_roots.specs.Roots.{dead_root};
-
-#[tactic(auto, unfolding(crate::specs::Roots::dead_root))]
-fn is_dead_root(table: &[u8], roots: &[u8], k: usize) -> bool
-    requires { InRoots roots.now k }
-    ensures { result ≡ dead_root table.now roots.now k }
-{
-    diagrams::root(roots, k).is_dead(table)
-}
 
 pub fn first_dead_root(table: &[u8], roots: &[u8]) -> Option<usize>
     ensures { result ≡ found (dead_root table.now roots.now) (root_count roots.now) }
 {
-    (0..diagrams::count_roots(roots)).find(|&k| is_dead_root(table, roots, k))
+    (0..diagrams::count_roots(roots)).find(|&k| diagrams::root(roots, k).is_dead(table))
 }
