@@ -2,7 +2,8 @@
 use Rattle.std.specs.Prelude.{ℕ, ◌+◌, ◌<◌, ◌≤◌, Bool, true, false, cond, not, ◌&&◌, ◌||◌, List, ◌≡◌, refl, eqb, length, get_or, set}
 use Rattle.std.proofs.Common.{ap, sym, ◌∙◌, arith, eqb-true, length-set, get_or-set_same, get_or-set_other}
 use Rattle.std.proofs.lemmas.Bool.{eqb-false}
-use Rattle.lists.specs.First.{first, any, first_agrees}
+use Rattle.lists.specs.First.{any}
+use Rattle.lists.specs.Found.{found, found_agrees}
 use Rattle.lists.specs.Fold.{fold}
 use Rattle.lists.specs.Truth.{or_true, or_false}
 use Rattle.diagrams.specs.Layout.{most_records, records, root_count, low_at, high_at, is_used, root_at}
@@ -54,7 +55,7 @@ marks_say t r x h =
     ∙ ap (λ v. eqb v 1 || any (root_names r x) (root_count r)) (no_note x h))
 
 -- so the first unmarked record is the first idle one
-pub unmarked_idle : (t r : List ℕ) → records t ≤ most_records → first (unmarked t (marks_of t r)) (records t) ≡ first (idle t r) (records t)
+pub unmarked_idle : (t r : List ℕ) → records t ≤ most_records → found (unmarked t (marks_of t r)) (records t) ≡ found (idle t r) (records t)
 unfolding unmarked idle
 unmarked_idle t r h =
-    first_agrees (unmarked t (marks_of t r)) (idle t r) (records t) (λ i l. ap (λ b. is_used t i && not b) (marks_say t r (i + 2) (omega arith)))
+    found_agrees (unmarked t (marks_of t r)) (idle t r) (records t) (λ i l. ap (λ b. is_used t i && not b) (marks_say t r (i + 2) (omega arith)))

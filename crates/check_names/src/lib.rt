@@ -12,6 +12,7 @@ ghost use Rattle.check_names.specs.Marks.{marked_root, marked_record, unmarked};
 
 use diagrams::{MOST_RECORDS, RecordNumber, Reference};
 
+#[tactic(auto, unfolding(diagrams::specs::Noting::no_notes))]
 fn no_marks() -> [u8; MOST_RECORDS + 2]
     ensures { result ≡ no_notes }
 {
@@ -21,12 +22,13 @@ fn no_marks() -> [u8; MOST_RECORDS + 2]
 fn mark(marks: &mut [u8], x: Reference)
     ensures { marks.new ≡ set marks.old x.0 1 }
 {
-    let at = x.0;
-    if at < marks.len() {
-        marks[at] = 1;
+    // Not through get_mut, which promises nothing of the slice that it leaves.
+    if x.0 < marks.len() {
+        marks[x.0] = 1;
     }
 }
 
+#[tactic(auto, unfolding(crate::specs::Marks::marked_record))]
 fn mark_record(marks: &mut [u8], table: &[u8], i: RecordNumber)
     requires { InTable table.now i.0 }
     ensures { marks.new ≡ marked_record table.now marks.old i.0 }
@@ -45,6 +47,7 @@ fn mark_records(marks: &mut [u8], table: &[u8])
     }
 }
 
+#[tactic(auto, unfolding(crate::specs::Marks::marked_root))]
 fn mark_root(marks: &mut [u8], roots: &[u8], k: usize)
     requires { InRoots roots.now k }
     ensures { marks.new ≡ marked_root roots.now marks.old k }
@@ -60,12 +63,12 @@ fn mark_roots(marks: &mut [u8], roots: &[u8])
     }
 }
 
+#[tactic(auto, unfolding(crate::specs::Marks::unmarked))]
 fn is_unmarked(table: &[u8], marks: &[u8], i: RecordNumber) -> bool
     requires { InTable table.now i.0 × ((i.0 + 2 < length marks.now) × (i.0 < 65536)) }
     ensures { result ≡ unmarked table.now marks.now i.0 }
 {
-    let at = i.reference().0;
-    i.is_used(table) & !(marks[at] == 1)
+    i.is_used(table) && marks[i.reference().0] != 1
 }
 
 fn first_unmarked(table: &[u8], marks: &[u8]) -> Option<usize>
