@@ -19,9 +19,8 @@ use Rattle.check_equal.specs.Equal.{equal_says}
 use Rattle.check_repeats.specs.Repeats.{Same, repeats_says}
 use Rattle.check_roots.specs.Roots.{root_says}
 use Rattle.check_names.specs.Names.{NamedByRoot, NamedByRecord, named_says, idle_says}
-use Rattle.checks.specs.Stages.{verdict_of, only_passed, passed_only, AllPass, none, also, clear_if, clear_only}
+use Rattle.checks.specs.Stages.{clear, verdict_of, only_passed, passed_only, AllPass, none, also, clear_if, clear_only}
 use Rattle.checks.specs.Check.{table_stages, check_stages}
-use Rattle.checks.specs.declared.Verdict.TheVariants.{Clear}
 use Rattle.checks.specs.Usable.{Passes, Usable}
 
 pub all_pass : (t r o : List ℕ) → Passes t r o → AllPass (check_stages t r o)
@@ -231,8 +230,8 @@ module _ (t r o : List ℕ) where
     }
 
   -- ---- so exactly such a table is clear
-  pub usable_clear : Usable t r o → verdict_of (check_stages t r o) ≡ Clear
+  pub usable_clear : Usable t r o → verdict_of (check_stages t r o) ≡ clear
   usable_clear q = clear_if (check_stages t r o) (all_pass t r o (usable_then q))
 
-  pub clear_usable : verdict_of (check_stages t r o) ≡ Clear → Usable t r o
+  pub clear_usable : verdict_of (check_stages t r o) ≡ clear → Usable t r o
   clear_usable e = usable_if (passes_all t r o (clear_only (check_stages t r o) e))
