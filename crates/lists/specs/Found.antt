@@ -1,6 +1,8 @@
 -- The least index below n at which a test holds, if there is one; and the laws of a loop that looks for it.
-use Rattle.std.specs.Prelude.{ℕ, ◌+◌, ◌<◌, ◌≤◌, Bool, true, false, cond, Option, Some, None, ◌≡◌, refl, ltb}
-use Rattle.std.proofs.Common.{ap, sym, ◌∙◌, subst, arith, lt-ltb, le-ltb, ltb-true, ltb-false, le_refl, rules}
+use Rattle.std.specs.Prelude.{ℕ, zero, suc, ◌+◌, ◌<◌, ◌≤◌, Bool, true, false, cond, ◌||◌, List, [], ◌∷◌, Option, Some, None, ◌≡◌, refl, ltb, length, get_or}
+use Rattle.std.specs.List.{list_any}
+use Rattle.std.proofs.Math.Dec.{leb-suc-suc}
+use Rattle.std.proofs.Common.{ap, sym, ◌∙◌, subst, arith, lt-ltb, le-ltb, ltb-true, ltb-false, le_refl, zero-le, suc-le-suc, rules}
 use Rattle.lists.specs.Apart.{apart}
 use Rattle.lists.specs.First.{first, any, Passed, passed_none, passed_more, first_at, first_none, first_passed, first_holds, first_within, first_agrees}
 
@@ -54,6 +56,17 @@ none_found {p} {n} h = go (any p n) refl h
 pub found_agrees : (p q : ℕ → Bool) (n : ℕ) → ((k : ℕ) → k < n → p k ≡ q k) → found p n ≡ found q n
 unfolding found
 found_agrees p q n e = ap (λ m. cond (ltb m n) (Some m) None) (first_agrees p q n e)
+
+-- ---- whether a list has an element that passes
+pub any_listed : (test : ℕ → Bool) (xs : List ℕ) → list_any test xs ≡ any (λ j. test (get_or xs j 0)) (length xs)
+unfolding first
+any_listed test [] = refl
+any_listed test (x ∷ xs) = step (test x) (any_listed test xs)
+  where
+    step : (b : Bool) → list_any test xs ≡ any (λ j. test (get_or xs j 0)) (length xs)
+        → (b || list_any test xs) ≡ ltb (cond b zero (suc (first (λ j. test (get_or xs j 0)) (length xs)))) (suc (length xs))
+    step true e = sym (lt-ltb 0 (suc (length xs)) (suc-le-suc zero-le))
+    step false e = e ∙ sym (leb-suc-suc (suc (first (λ j. test (get_or xs j 0)) (length xs))) (length xs))
 
 -- ---- a loop that looks for the first index, at i of n: where it finds and ends. b is the flag that its body made of p i, and m is n under
 -- another name, such as the code's own count

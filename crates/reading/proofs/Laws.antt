@@ -5,9 +5,10 @@ use mathlib.Core.List.{List, [], ◌∷◌}
 use mathlib.Core.Path.{◌≡◌, refl, ap, sym, ◌∙◌}
 use native.Mathlib.Numerals.{sub-one}
 use native.Mathlib.Omega.{arith}
-use borrow.Author.Tests.{eqb-true, eqb-false, le-leb, lt-leb, ltb-true}
+use borrow.Author.Tests.{eq-eqb, eqb-true, eqb-false, le-leb, lt-leb, ltb-true}
 use lib.Dec.{eqb, ltb}
-use lib.ListN.{length, get_or-eq_default}
+use lib.ListN.{length}
+use Rattle.std.specs.Prelude.{Ok, Err}
 use Rattle.lists.specs.Count.{bit}
 use Rattle.lists.specs.Says.{either_side}
 use Rattle.lists.specs.Truth.{not_true, not_false}
@@ -19,20 +20,11 @@ use Rattle.diagrams.specs.Lookup.{lookup, node_of, free_of, past_of}
 use Rattle.diagrams.proofs.Reduced.{look_ends}
 use Rattle.diagrams.specs.Value.{chosen, met, value}
 use Rattle.diagrams.specs.Falls.{value_terminal}
-use Rattle.checks.specs.Stages.{refusal, stage_at, verdict_of, row_refuses, row_passes, place_refuses, place_passes}
-use Rattle.checks.specs.Check.{check_stages}
+use Rattle.checks.specs.Stages.{clear, verdict_of, stopped_by, rows}
 use Rattle.checks.specs.declared.Refusal.{Refusal}
-use Rattle.checks.specs.declared.Verdict.{Verdict}
-use Rattle.checks.specs.declared.Verdict.TheVariants as verdict
-use Rattle.reading.specs.Read.{input_of, no_root, bad_inputs, read_stages, root_value, read_after, read_of, ReadOutcome}
-use Rattle.reading.specs.declared.ReadAnswer.{ReadAnswer}
-use Rattle.reading.specs.declared.ReadAnswer.TheVariants.{Value, Refused}
-
--- ---- an input
-
-pub input_past : (inputs : List ℕ) (v : ℕ) → length inputs ≤ v → false ≡ input_of inputs v
-unfolding input_of
-input_past inputs v h = rw (get_or-eq_default inputs 0 h)
+use Rattle.lists.specs.Found.{any_listed}
+use Rattle.std.specs.List.{list_any}
+use Rattle.reading.specs.Read.{ReadAnswer, input_of, bad_inputs, no_input, read_stages, root_value, read_after, read_of}
 
 -- ---- the child that is taken
 
@@ -88,41 +80,21 @@ module _ (t : List ℕ) (inputs : ℕ → Bool) where
   child_value zero x e p h = absurd (omega arith)
   child_value (suc n) x e p h = rw (sub-one, e) at p
 
+-- ---- the inputs
+pub inputs_told : (o inputs : List ℕ) {b : Bool} → length inputs ≡ length o → b ≡ list_any (λ x. ltb 1 x) inputs → b ≡ bad_inputs o inputs
+unfolding bad_inputs no_input
+inputs_told o inputs h e = rw (eq-eqb (length inputs) (length o) h) (e ∙ any_listed (λ x. ltb 1 x) inputs)
+
 -- ---- what Read answers
 
-module _ (t r o : List ℕ) (position : ℕ) (inputs : List ℕ) {v : Verdict} (checked : v ≡ verdict_of (check_stages t r o)) where
-  abbrev Answers : ReadAnswer → Type 0
-  Answers a = ReadOutcome t r o position inputs a
-
-  abbrev after : Verdict → ReadAnswer
-  after w = read_after w (root_value t r o position inputs)
-
-  by : {w : Verdict} → w ≡ verdict_of (read_stages t r o position inputs) → Answers (after w)
+module _ (t r o : List ℕ) (position : ℕ) (inputs : List ℕ) where
+  pub read_stops : (w : Refusal) → Err w ≡ verdict_of (read_stages t r o position inputs) → ◌≡◌ {A = ReadAnswer} (Err w) (read_of t r o position inputs)
   unfolding read_of
-  by e = ap after e
+  read_stops w e = ap (λ v. read_after v (root_value t r o position inputs)) e
 
-  pub read_refused : (w : Refusal) → v ≡ verdict.Refused w → Answers (Refused w)
-  unfolding read_stages
-  read_refused w h = by (row_refuses (check_stages t r o) _ w checked h)
+  pub read_tells : (b : Bool) {x : ℕ} → clear ≡ verdict_of (read_stages t r o position inputs) → x ≡ root_at r position
+      → b ≡ value (lookup t) (input_of inputs) (length o) x → Ok b ≡ read_of t r o position inputs
+  unfolding read_of root_value
+  read_tells b e is says = rw (says, is) (ap (λ v. read_after v (root_value t r o position inputs)) e)
 
-  module _ {m : ℕ} (clear : v ≡ verdict.Clear) (counted : m ≡ root_count r) where
-    by_10 : {w : Verdict} → w ≡ verdict_of (stage_at 10 position (no_root r position) ∷ stage_at 11 0 (bad_inputs o inputs) ∷ []) → Answers (after w)
-    unfolding read_stages
-    by_10 e = by (row_passes (check_stages t r o) _ checked clear e)
-
-    pub read_no_root : m ≤ position → Answers (Refused (refusal 10 position))
-    read_no_root l = by_10 (place_refuses 10 position (no_root r position) true _ (sym (le-leb (root_count r) position (omega arith))) refl)
-
-    module _ {b : Bool} (flag : b ≡ bad_inputs o inputs) (there : position < m) where
-      by_11 : {w : Verdict} → w ≡ verdict_of (stage_at 11 0 (bad_inputs o inputs) ∷ []) → Answers (after w)
-      by_11 e = by_10 (place_passes 10 position (no_root r position) false _ _ (sym (lt-leb (root_count r) position (omega arith))) refl e)
-
-      pub read_bad_inputs : b ≡ true → Answers (Refused (refusal 11 0))
-      read_bad_inputs h = by_11 (place_refuses 11 0 (bad_inputs o inputs) b _ flag h)
-
-      pub read_value : {x n : ℕ} {d : Bool} → b ≡ false → x ≡ root_at r position → d ≡ value (lookup t) (input_of inputs) (length o) x → n ≡ bit d
-          → Answers (Value n)
-      unfolding root_value
-      read_value h is says e = rw (e, says, is) (by_11 (place_passes 11 0 (bad_inputs o inputs) b _ _ flag h refl))
-
-pub ruleset reading = (read_refused, read_no_root, read_bad_inputs, read_value)
+pub ruleset reading = (stopped_by, read_stops, read_tells, rows)
