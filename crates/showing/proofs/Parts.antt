@@ -1,5 +1,5 @@
 -- Laws of what specs/Parts.antt defines.
-use Rattle.std.specs.Prelude.{ℕ, ◌+◌, ◌-◌, ◌*◌, ◌≤◌, ◌<◌, Bool, List, [], ◌⊎◌, ◌≡◌, length}
+use Rattle.std.specs.Prelude.{ℕ, ◌+◌, ◌-◌, ◌*◌, ◌≤◌, ◌<◌, Bool, List, [], ◌⊎◌, ◌≡◌, length, Ok, Err}
 use Rattle.std.proofs.Math.Bool.{true, false}
 use Rattle.std.proofs.Common.{inl, inr, sym, ◌∙◌, lt_of_not-le, arith}
 use Rattle.std.proofs.Math.Path.{refl, ap}
@@ -12,13 +12,12 @@ use Rattle.parts.specs.Part.{no_part, Inside, bytes_in}
 use Rattle.parts.specs.Lent.{nothing_inside, Lent, handed_long, handed_lent, handed_one}
 use Rattle.parts.specs.declared.Part.{Part}
 use Rattle.check_roots.specs.Roots.{root_says}
-use Rattle.checks.specs.Stages.{verdict_of, clear_only, row_refuses, row_passes, place_refuses, place_passes}
+use Rattle.checks.specs.Stages.{Verdict, clear, verdict_of, clear_only, row_refuses, row_passes, place_refuses, place_passes}
 use Rattle.checks.specs.Check.{check_stages, used, answered, check_of}
 use Rattle.checks.proofs.Theorems.{accepts_only}
 use Rattle.checks.proofs.Usable.{passes_all}
 use Rattle.checks.specs.declared.Refusal.{Refusal}
-use Rattle.checks.specs.declared.Verdict.{Verdict}
-use Rattle.checks.specs.declared.Verdict.TheVariants as verdict
+use Rattle.checks.specs.declared.Fault.TheVariants.{NoRoot}
 use Rattle.reading.specs.Read.{no_root}
 use Rattle.showing.specs.Show.{show_stages, shows, part_at, part_of, ShowOutcome}
 use Rattle.showing.specs.Parts.{Nothing, Shown, Something, refused_table, no_such_root, constant_root, nothing, something}
@@ -26,27 +25,27 @@ use Rattle.showing.specs.Parts.{Nothing, Shown, Something, refused_table, no_suc
 -- ---- the ways to the part: a law for each, whose premises are what code knows there
 
 module _ (t r o : List ℕ) (position : ℕ) {v : Verdict} (checked : v ≡ verdict_of (check_stages t r o)) where
-  not_shown : {w : Refusal} → verdict.Refused w ≡ verdict_of (show_stages t r o position) → no_part ≡ part_of t r o position
+  not_shown : {w : Refusal} → Err w ≡ verdict_of (show_stages t r o position) → no_part ≡ part_of t r o position
   unfolding part_of shows
   not_shown e = rw (← e)
 
-  pub refused_part : (w : Refusal) → v ≡ verdict.Refused w → no_part ≡ part_of t r o position
+  pub refused_part : (w : Refusal) → v ≡ Err w → no_part ≡ part_of t r o position
   unfolding show_stages
   refused_part w h = not_shown (row_refuses (check_stages t r o) _ w checked h)
 
-  module _ {m : ℕ} (clear : v ≡ verdict.Clear) (counted : m ≡ root_count r) where
+  module _ {m : ℕ} (passed : v ≡ clear) (counted : m ≡ root_count r) where
     pub no_root_part : m ≤ position → no_part ≡ part_of t r o position
     unfolding show_stages
     no_root_part l =
-        not_shown (row_passes (check_stages t r o) _ checked clear
-        (place_refuses 10 position (no_root r position) true verdict.Clear (sym (le-leb (root_count r) position (omega arith))) refl))
+        not_shown (row_passes (check_stages t r o) _ checked passed
+        (place_refuses NoRoot position (no_root r position) clear {b = true} (sym (le-leb (root_count r) position (omega arith))) refl refl))
 
     module _ {x : ℕ} {b : Bool} (is : x ≡ root_at r position) (flag : b ≡ ltb x 2) (there : position < m) where
-      is_shown : verdict.Clear ≡ verdict_of (show_stages t r o position)
+      is_shown : clear ≡ verdict_of (show_stages t r o position)
       unfolding show_stages
       is_shown =
-          row_passes (check_stages t r o) _ checked clear
-          (place_passes 10 position (no_root r position) false verdict.Clear verdict.Clear (sym (lt-leb (root_count r) position (omega arith))) refl refl)
+          row_passes (check_stages t r o) _ checked passed
+          (place_passes NoRoot position (no_root r position) clear {b = false} (sym (lt-leb (root_count r) position (omega arith))) refl refl refl)
 
       pub constant_part : b ≡ true → no_part ≡ part_of t r o position
       unfolding part_of shows
@@ -60,8 +59,8 @@ module _ (t r o : List ℕ) (position : ℕ) {v : Verdict} (checked : v ≡ verd
         -- an accepted table has the records that its roots name
         pub root_inside : InTable t i
         root_inside =
-            let passed = (passes_all t r o (clear_only (check_stages t r o) (sym checked ∙ clear))).c8 in
-            let alive = nowhere (root_says t r) passed position (omega arith) in
+            let all = (passes_all t r o (clear_only (check_stages t r o) (sym checked ∙ passed))).c8 in
+            let alive = nowhere (root_says t r) all position (omega arith) in
             let l : i < records t = lt_of_not-le (λ past. alive (rw (← is, ← number) (ltb-false x 2 (sym flag ∙ record?), inl past))) in
             omega arith
 
@@ -78,7 +77,7 @@ module _ (t r o : List ℕ) (position : ℕ) where
   unfolding check_of
   shown = go (verdict_of (check_stages t r o)) refl
     where
-      root : verdict_of (check_stages t r o) ≡ verdict.Clear → position < root_count r → Shown t r o position
+      root : verdict_of (check_stages t r o) ≡ clear → position < root_count r → Shown t r o position
       root e l =
           either_side (root_at r position) 2
           (λ c. nothing (constant_root c) (sym (constant_part t r o position refl e refl refl refl l (lt-ltb (root_at r position) 2 c))))
@@ -95,8 +94,8 @@ module _ (t r o : List ℕ) (position : ℕ) where
           (sym (record_part t r o position refl e refl refl refl l f refl refl)))
 
       go : (v : Verdict) → verdict_of (check_stages t r o) ≡ v → Shown t r o position
-      go verdict.Clear e = either_side position (root_count r) (root e) (λ l. nothing (no_such_root l) (sym (no_root_part t r o position refl e refl l)))
-      go (verdict.Refused w) e = nothing (refused_table w (ap (λ v. answered v (used t)) e)) (sym (refused_part t r o position refl w e))
+      go (Ok _) e = either_side position (root_count r) (root e) (λ l. nothing (no_such_root l) (sym (no_root_part t r o position refl e refl l)))
+      go (Err w) e = nothing (refused_table w (ap (λ v. answered v (used t)) e)) (sym (refused_part t r o position refl w e))
 
   -- ---- no part exactly where there is nothing to show; otherwise that of the record which the root names
 

@@ -1,22 +1,21 @@
 -- Show: the part of the caller's own table that is the record of a root; an empty part where the table is refused, there is no such root,
 -- or the root is a constant.
 -- docs/RULES.md, 3.
-use Rattle.std.specs.Prelude.{ℕ, ◌-◌, ◌*◌, Bool, true, false, cond, ◌&&◌, List, [], ◌∷◌, ◌++◌, leb}
+use Rattle.std.specs.Prelude.{ℕ, ◌-◌, ◌*◌, Bool, true, false, cond, ◌&&◌, List, [], ◌∷◌, ◌++◌, leb, Ok, Err}
 use Rattle.diagrams.specs.Layout.{record_size, root_at}
 use Rattle.parts.specs.Part.{part_from, no_part, Handed}
 use Rattle.parts.specs.declared.Part.{Part}
-use Rattle.checks.specs.Stages.{Stage, stage_at, verdict_of}
+use Rattle.checks.specs.Stages.{Verdict, Stage, stage_at, verdict_of}
 use Rattle.checks.specs.Check.{check_stages}
-use Rattle.checks.specs.declared.Verdict.{Verdict}
-use Rattle.checks.specs.declared.Verdict.TheVariants.{Clear, Refused}
+use Rattle.checks.specs.declared.Fault.TheVariants.{NoRoot}
 use Rattle.reading.specs.Read.{no_root}
 
 abbrev pub is_clear : Verdict → Bool
-is_clear Clear = true
-is_clear (Refused w) = false
+is_clear (Ok _) = true
+is_clear (Err w) = false
 
 unfoldable pub show_stages : List ℕ → List ℕ → List ℕ → ℕ → List Stage
-show_stages t r o position = check_stages t r o ++ (stage_at 10 position (no_root r position) ∷ [])
+show_stages t r o position = check_stages t r o ++ (stage_at NoRoot position (no_root r position) ∷ [])
 
 -- an accepted table, such a root, and no constant
 unfoldable pub shows : List ℕ → List ℕ → List ℕ → ℕ → Bool

@@ -4,7 +4,6 @@
 ghost use Rattle.std.specs.Prelude.{◌≡◌};
 ghost use Rattle.showing.specs.Show.{part_of, ShowOutcome};
 
-use checks::Verdict;
 use diagrams::RECORD_SIZE;
 use parts::Part;
 
@@ -12,8 +11,7 @@ use parts::Part;
 pub fn shown_part(table: &[u8], roots: &[u8], order: &[u8], position: usize) -> Part
     ensures { result ≡ part_of table.now roots.now order.now position }
 {
-    let verdict = checks::verdict_of_all(table, roots, order);
-    if let Verdict::Refused(_) = verdict {
+    if checks::verdict_of_all(table, roots, order).is_err() {
         return Part(0, 0);
     }
     if diagrams::count_roots(roots) <= position {
