@@ -12,13 +12,6 @@ ghost use Rattle.check_names.specs.Marks.{marked_root, marked_record, unmarked};
 
 use diagrams::{MOST_RECORDS, RecordNumber, Reference};
 
-#[tactic(auto, unfolding(diagrams::specs::Noting::no_notes))]
-fn no_marks() -> [u8; MOST_RECORDS + 2]
-    ensures { result ≡ no_notes }
-{
-    [0u8; MOST_RECORDS + 2]
-}
-
 fn mark(marks: &mut [u8], x: Reference)
     ensures { marks.new ≡ set marks.old x.0 1 }
 {
@@ -39,6 +32,7 @@ fn mark_record(marks: &mut [u8], table: &[u8], i: RecordNumber)
     }
 }
 
+#[tactic(auto, using(lists::specs::Fold::folds))]
 fn mark_records(marks: &mut [u8], table: &[u8])
     ensures { marks.new ≡ fold (marked_record table.now) marks.old (records table.now) }
 {
@@ -55,6 +49,7 @@ fn mark_root(marks: &mut [u8], roots: &[u8], k: usize)
     mark(marks, diagrams::root(roots, k));
 }
 
+#[tactic(auto, using(lists::specs::Fold::folds))]
 fn mark_roots(marks: &mut [u8], roots: &[u8])
     ensures { marks.new ≡ fold (marked_root roots.now) marks.old (root_count roots.now) }
 {
@@ -78,11 +73,12 @@ fn first_unmarked(table: &[u8], marks: &[u8]) -> Option<usize>
     (0..diagrams::count_records(table)).find(|&i| is_unmarked(table, marks, RecordNumber(i)))
 }
 
+#[tactic(auto, using(crate::proofs::Laws::mark_scan))]
 pub fn first_idle(table: &[u8], roots: &[u8]) -> Option<usize>
     requires { records table.now ≤ most_records }
     ensures { result ≡ found (idle table.now roots.now) (records table.now) }
 {
-    let mut marks = no_marks();
+    let mut marks = [0u8; MOST_RECORDS + 2];
     mark_roots(&mut marks, roots);
     mark_records(&mut marks, table);
     first_unmarked(table, &marks)
