@@ -5,7 +5,7 @@
 ghost use Rattle.std.specs.Prelude.{◌≡◌, ◌+◌, ◌<◌, ◌≤◌, length, set};
 ghost use Rattle.lists.specs.Found.{found};
 ghost use Rattle.lists.specs.Fold.{fold};
-ghost use Rattle.diagrams.specs.Layout.{most_records, records, root_count, InTable, InRoots};
+ghost use Rattle.diagrams.specs.Layout.{most_records, records, root_count, InTable};
 ghost use Rattle.diagrams.specs.Noting.{no_notes};
 ghost use Rattle.check_names.specs.Names.{idle};
 ghost use Rattle.check_names.specs.Marks.{marked_root, marked_record, unmarked};
@@ -41,20 +41,12 @@ fn mark_records(marks: &mut [u8], table: &[u8])
     }
 }
 
-#[tactic(auto, unfolding(crate::specs::Marks::marked_root))]
-fn mark_root(marks: &mut [u8], roots: &[u8], k: usize)
-    requires { InRoots roots.now k }
-    ensures { marks.new ≡ marked_root roots.now marks.old k }
-{
-    mark(marks, diagrams::root(roots, k));
-}
-
-#[tactic(auto, using(lists::specs::Fold::folds))]
+#[tactic(auto, unfolding(crate::specs::Marks::marked_root), using(lists::specs::Fold::folds))]
 fn mark_roots(marks: &mut [u8], roots: &[u8])
     ensures { marks.new ≡ fold (marked_root roots.now) marks.old (root_count roots.now) }
 {
     for k in 0..diagrams::count_roots(roots) {
-        mark_root(marks, roots, k);
+        mark(marks, diagrams::root(roots, k));
     }
 }
 
