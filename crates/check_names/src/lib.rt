@@ -6,7 +6,6 @@ ghost use Rattle.std.specs.Prelude.{◌≡◌, ◌+◌, ◌<◌, ◌≤◌, leng
 ghost use Rattle.lists.specs.Found.{found};
 ghost use Rattle.lists.specs.Fold.{fold};
 ghost use Rattle.diagrams.specs.Layout.{most_records, records, root_count, InTable};
-ghost use Rattle.diagrams.specs.Noting.{no_notes};
 ghost use Rattle.check_names.specs.Names.{idle};
 ghost use Rattle.check_names.specs.Marks.{marked_root, marked_record, unmarked};
 
