@@ -5,19 +5,11 @@
 ghost use Rattle.std.specs.Prelude.{◌≡◌, ◌+◌, ◌<◌, ◌≤◌, length, set};
 ghost use Rattle.lists.specs.Found.{found};
 ghost use Rattle.lists.specs.Fold.{fold};
-ghost use Rattle.diagrams.specs.Layout.{most_records, records, root_count, InTable, InRoots};
-ghost use Rattle.diagrams.specs.Noting.{no_notes};
+ghost use Rattle.diagrams.specs.Layout.{most_records, records, root_count, InTable};
 ghost use Rattle.check_names.specs.Names.{idle};
 ghost use Rattle.check_names.specs.Marks.{marked_root, marked_record, unmarked};
 
 use diagrams::{MOST_RECORDS, RecordNumber, Reference};
-
-#[tactic(auto, unfolding(diagrams::specs::Noting::no_notes))]
-fn no_marks() -> [u8; MOST_RECORDS + 2]
-    ensures { result ≡ no_notes }
-{
-    [0u8; MOST_RECORDS + 2]
-}
 
 fn mark(marks: &mut [u8], x: Reference)
     ensures { marks.new ≡ set marks.old x.0 1 }
@@ -39,6 +31,7 @@ fn mark_record(marks: &mut [u8], table: &[u8], i: RecordNumber)
     }
 }
 
+#[tactic(auto, using(lists::specs::Fold::folds))]
 fn mark_records(marks: &mut [u8], table: &[u8])
     ensures { marks.new ≡ fold (marked_record table.now) marks.old (records table.now) }
 {
@@ -47,19 +40,12 @@ fn mark_records(marks: &mut [u8], table: &[u8])
     }
 }
 
-#[tactic(auto, unfolding(crate::specs::Marks::marked_root))]
-fn mark_root(marks: &mut [u8], roots: &[u8], k: usize)
-    requires { InRoots roots.now k }
-    ensures { marks.new ≡ marked_root roots.now marks.old k }
-{
-    mark(marks, diagrams::root(roots, k));
-}
-
+#[tactic(auto, unfolding(crate::specs::Marks::marked_root), using(lists::specs::Fold::folds))]
 fn mark_roots(marks: &mut [u8], roots: &[u8])
     ensures { marks.new ≡ fold (marked_root roots.now) marks.old (root_count roots.now) }
 {
     for k in 0..diagrams::count_roots(roots) {
-        mark_root(marks, roots, k);
+        mark(marks, diagrams::root(roots, k));
     }
 }
 
@@ -78,11 +64,12 @@ fn first_unmarked(table: &[u8], marks: &[u8]) -> Option<usize>
     (0..diagrams::count_records(table)).find(|&i| is_unmarked(table, marks, RecordNumber(i)))
 }
 
+#[tactic(auto, using(crate::proofs::Laws::mark_scan))]
 pub fn first_idle(table: &[u8], roots: &[u8]) -> Option<usize>
     requires { records table.now ≤ most_records }
     ensures { result ≡ found (idle table.now roots.now) (records table.now) }
 {
-    let mut marks = no_marks();
+    let mut marks = [0u8; MOST_RECORDS + 2];
     mark_roots(&mut marks, roots);
     mark_records(&mut marks, table);
     first_unmarked(table, &marks)

@@ -1,4 +1,4 @@
-use Rattle.std.specs.Prelude.{◌≡◌, length}
+use Rattle.std.specs.Prelude.{◌≡◌}
 use Rattle.lists.specs.Fold.{fold}
 use Rattle.check_names.specs.Marks.{marked_record}
 use Rattle.check_names.proofs.mark_records.Given as goal
