@@ -21,6 +21,7 @@ pub fn mix(v: usize, a: usize, b: usize) -> usize
 }
 
 // Room for ROOM entries. The last bucket, which `mix` never gives, is for entries that nobody looks up.
+#[derive(Drop)]
 pub struct Chains<const ROOM: usize> {
     head: [u16; BUCKETS + 1],
     link: [u16; ROOM],
