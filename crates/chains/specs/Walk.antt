@@ -43,7 +43,10 @@ module _ {q : ℕ → Bool} {bucket : ℕ → ℕ} {size n : ℕ} {head link : L
 
   module _ {entry seen entry' : Option ℕ} {j : ℕ} (w : Walk q bucket b n entry seen) (is : entry ≡ Some j) (p : entry' ≡ entry_in (get_or link j 0)) where
     next : standing entry' ≡ newest bucket b j
-    next = ap standing p ∙ standing_in (get_or link j 0) ∙ c.links j (omega (arith, here is, w.below, w.within)) ∙ ap (λ a. newest bucket a j) (w.lies j (here is))
+    next =
+        ap standing p ∙ standing_in (get_or link j 0)
+        ∙ c.links j (omega (arith, here is, w.below, w.within))
+        ∙ ap (λ a. newest bucket a j) (w.lies j (here is))
 
     -- the chain leads back
     pub walk_falls : standing entry' < standing entry

@@ -29,6 +29,7 @@ pub record Looks (t : List ℕ) (i : ℕ) (w : Walked) : Type 0 where
 abbrev pub Enters : List ℕ → ℕ → Walked → List ℕ → List ℕ → Type 0
 Enters t i w head link = Looks t i w × Chained (bucket_at t) most_records (i + 1) head link
 
+-- something is found exactly where the test holds somewhere
 pub found_some : (p : ℕ → Bool) (n : ℕ) → is_some (found p n) ≡ any p n
 unfolding found
 found_some p n = go (any p n)

@@ -80,6 +80,7 @@ fn enter(table: &[u8], chains: &mut Chains<MOST_RECORDS>, i: RecordNumber) -> Wa
     walked
 }
 
+// The first repeat, unless the chains are crowded.
 pub fn search(table: &[u8]) -> Result<Option<usize>, Crowded>
     requires { records table.now ≤ most_records }
     ensures { IfOk result (λ place. place ≡ found (repeats table.now) (records table.now)) }

@@ -122,7 +122,8 @@ module _ {class slot : List ℕ} {i x : ℕ} {class' slot' : List ℕ} (s : Ente
       next : (y : ℕ) → y < slots → get_or slot' y 0 ≡ held place y (i + 1)
       next y m =
           ⊎_elim
-          (λ z. rw (s.slot_now, ← z, get_or-set_same slot x (come (get_or slot x 0) i) 0 (omega arith)) (held_come place x i (p.holds x h) ∙ sym (held_here place x i (sym at))))
+          (λ z. rw (s.slot_now, ← z, get_or-set_same slot x (come (get_or slot x 0) i) 0 (omega arith))
+          (held_come place x i (p.holds x h) ∙ sym (held_here place x i (sym at))))
           (λ d. rw (s.slot_now, get_or-set_other slot x y _ 0 (λ z. d (sym z))) (p.holds y m ∙ sym (held_there place y i (λ z. d (at ∙ z)))))
           (decided (says_eqb x y))
 
