@@ -1,6 +1,6 @@
 -- Entries in buckets, each bucket chained from its newest entry back. An entry stands in head and link as its number plus 1, so that 0 is none.
 use Prim.Native.Nat.{ℕ, zero, suc, ◌+◌, ◌≤◌, ◌<◌, zero-le}
-use Rattle.std.specs.Prelude.{Bool, List, ◌≡◌, length, get_or, set, replicate}
+use Rattle.std.specs.Prelude.{Bool, List, Option, Some, None, ◌≡◌, length, get_or, set, replicate}
 use Rattle.std.proofs.Math.Bool.{true, false, cond}
 use Rattle.std.proofs.Math.Path.{refl}
 use Rattle.std.proofs.Common.{ap, sym, ◌∙◌, ⊎_elim, add-one, rules, length-set, get_or-set_same, get_or-set_other}
@@ -11,6 +11,19 @@ use Rattle.std.proofs.Math.Dec.{eqb}
 use Rattle.std.proofs.lemmas.List.{length-replicate, get_or-replicate}
 use Rattle.lists.specs.Says.{decided, either_side, says_eqb}
 use Rattle.chains.specs.Mixed.{buckets}
+
+-- the entry that a number in the lists stands for, and the number
+abbrev pub entry_in : ℕ → Option ℕ
+entry_in zero = None
+entry_in (suc e) = Some e
+
+abbrev pub standing : Option ℕ → ℕ
+standing None = zero
+standing (Some e) = suc e
+
+pub standing_in : (x : ℕ) → standing (entry_in x) ≡ x
+standing_in zero = refl
+standing_in (suc e) = refl
 
 -- the newest of the entries below n that lie in bucket b, plus 1; 0 where none does. The bucket of an entry is any function of its number
 unfoldable pub newest : (ℕ → ℕ) → ℕ → ℕ → ℕ

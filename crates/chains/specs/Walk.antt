@@ -1,90 +1,96 @@
 -- A walk along a chain, from its newest entry back, finds what a search through all entries finds: the first that passes a test.
-use Rattle.std.specs.Prelude.{ℕ, suc, ◌+◌, ◌-◌, ◌≤◌, ◌<◌, Bool, true, false, cond, List, ◌≡◌, length, get_or}
-use Rattle.std.proofs.Common.{ap, sym, ◌∙◌, ⊎_elim, arith, rules}
-use Rattle.lists.specs.First.{first, Passed, first_at, first_none}
+use Rattle.std.specs.Prelude.{ℕ, suc, ◌+◌, ◌≤◌, ◌<◌, Bool, true, false, Option, Some, None, List, ◌≡◌, length, get_or}
+use Rattle.std.proofs.Common.{refl, ap, sym, ◌∙◌, ⊎_elim, arith, rules}
+use Rattle.lists.specs.Apart.{apart}
+use Rattle.lists.specs.Found.{found, found_or, found_at, found_none}
 use Rattle.lists.specs.Says.{decided, denies, either_side, says_eqb, says_itself}
-use Rattle.chains.specs.Chains.{Chained, newest, newest_within, newest_lies, newest_passed}
+use Rattle.chains.specs.Chains.{Chained, entry_in, standing, standing_in, newest, newest_within, newest_lies, newest_passed}
 
 -- only entries of bucket b pass
 pub record Only (q : ℕ → Bool) (bucket : ℕ → ℕ) (b : ℕ) : Type 0 where
   pub lies : (j : ℕ) → q j ≡ true → bucket j ≡ b
 
--- ---- a walk along bucket b, at e: found is the first entry from e on that passes, n where none does
-pub record Walk (q : ℕ → Bool) (bucket : ℕ → ℕ) (b n e found : ℕ) : Type 0 where
+-- ---- a walk along bucket b, at an entry or past the last one: seen is the first entry after it that passes
+pub record Walk (q : ℕ → Bool) (bucket : ℕ → ℕ) (b n : ℕ) (entry seen : Option ℕ) : Type 0 where
   pub only : Only q bucket b
-  pub lies : (j : ℕ) → e ≡ suc j → bucket j ≡ b
-  pub below : e ≤ found
-  pub within : found ≤ n
-  pub holds : found < n → q found ≡ true
-  pub passed : (j : ℕ) → e ≤ j → j < found → q j ≡ false
+  pub lies : (j : ℕ) → standing entry ≡ suc j → bucket j ≡ b
+  pub below : standing entry ≤ found_or seen n
+  pub within : found_or seen n ≤ n
+  pub holds : (j : ℕ) → seen ≡ Some j → (j < n) × (q j ≡ true)
+  pub passed : (j : ℕ) → standing entry ≤ j → j < found_or seen n → q j ≡ false
 
 -- steps are counted: with those that may still come there are no more than entries
-pub steps_begin : {bucket : ℕ → ℕ} {size n : ℕ} {head link : List ℕ} (b : ℕ) {e : ℕ} → Chained bucket size n head link → e ≡ get_or head b 0
-    → b < length head → 0 + e ≤ n
-steps_begin {bucket} {size} {n} b c p h = omega (arith, c.heads b h, newest_within bucket b n)
+pub steps_begin : {bucket : ℕ → ℕ} {size n : ℕ} {head link : List ℕ} {b : ℕ} {entry : Option ℕ} → Chained bucket size n head link
+    → entry ≡ entry_in (get_or head b 0) → b < length head → 0 + standing entry ≤ n
+steps_begin {bucket} {size} {n} {head} {link} {b} c p h = omega (arith, ap standing p, standing_in (get_or head b 0), c.heads b h, newest_within bucket b n)
+
+here : {entry : Option ℕ} {j : ℕ} → entry ≡ Some j → standing entry ≡ suc j
+here is = ap standing is
 
 module _ {q : ℕ → Bool} {bucket : ℕ → ℕ} {size n : ℕ} {head link : List ℕ} {b : ℕ} (c : Chained bucket size n head link) where
-  pub walk_begins : {e : ℕ} → Only q bucket b → e ≡ get_or head b 0 → b < length head → Walk q bucket b n e n
-  walk_begins {e} only p h = record {
+  pub walk_begins : {entry : Option ℕ} → Only q bucket b → entry ≡ entry_in (get_or head b 0) → b < length head → Walk q bucket b n entry None
+  walk_begins {entry} only p h = record {
     only = only;
     lies = λ j z. newest_lies bucket b n j (sym at ∙ z);
     below = rw at (newest_within bucket b n);
     within = omega arith;
-    holds = λ l. absurd (omega arith);
+    holds = λ j z. apart (cc);
     passed = λ j l m. denies (says_itself (q j)) (λ t. newest_passed bucket b n j (rw at at l) m (only.lies j t));
   }
     where
-      at : e ≡ newest bucket b n
-      at = p ∙ c.heads b h
+      at : standing entry ≡ newest bucket b n
+      at = ap standing p ∙ standing_in (get_or head b 0) ∙ c.heads b h
 
-  module _ {e j found : ℕ} (w : Walk q bucket b n e found) (is : j ≡ e - 1) (more : 0 < e) where
-    suc_j : e ≡ suc j
-    suc_j = omega arith
+  module _ {entry seen entry' : Option ℕ} {j : ℕ} (w : Walk q bucket b n entry seen) (is : entry ≡ Some j) (p : entry' ≡ entry_in (get_or link j 0)) where
+    next : standing entry' ≡ newest bucket b j
+    next =
+        ap standing p ∙ standing_in (get_or link j 0)
+        ∙ c.links j (omega (arith, here is, w.below, w.within))
+        ∙ ap (λ a. newest bucket a j) (w.lies j (here is))
 
-    next : {e' : ℕ} → e' ≡ get_or link j 0 → e' ≡ newest bucket b j
-    next p = p ∙ c.links j (omega (arith, w.below, w.within)) ∙ ap (λ a. newest bucket a j) (w.lies j suc_j)
+    -- the chain leads back
+    pub walk_falls : standing entry' < standing entry
+    walk_falls = omega (arith, here is, next, newest_within bucket b j)
 
-    pub walk_falls : {e' : ℕ} → e' ≡ get_or link j 0 → e' < e
-    walk_falls p = omega (arith, next p, newest_within bucket b j)
+    pub steps_go : (met : ℕ) → met + standing entry ≤ n → met + 1 + standing entry' ≤ n
+    steps_go met h = omega (arith, walk_falls)
 
-    pub steps_go : {e' : ℕ} (met : ℕ) → e' ≡ get_or link j 0 → met + e ≤ n → met + 1 + e' ≤ n
-    steps_go met p h = omega (arith, walk_falls p)
+    between : (k : ℕ) → standing entry' ≤ k → k < j → q k ≡ false
+    between k l m = denies (says_itself (q k)) (λ s. newest_passed bucket b j k (rw next at l) m (w.only.lies k s))
 
-    pub walk_goes : {e' found' : ℕ} {f : Bool} → f ≡ q j → found' ≡ cond f j found → e' ≡ get_or link j 0 → Walk q bucket b n e' found'
-    walk_goes {e'} {found'} {f} t p at = go f t p
+    pub walk_finds : {f : Bool} → f ≡ q j → f ≡ true → Walk q bucket b n entry' (Some j)
+    walk_finds t e = record {
+      only = w.only;
+      lies = λ k z. newest_lies bucket b j k (sym next ∙ z);
+      below = omega (arith, next, newest_within bucket b j);
+      within = omega (arith, here is, w.below, w.within);
+      holds = λ k z. let s : j ≡ k = cc in rw (← s) (omega (arith, here is, w.below, w.within), sym t ∙ e);
+      passed = λ k l m. between k l m;
+    }
+
+    pub walk_passes : {f : Bool} → f ≡ q j → f ≡ false → Walk q bucket b n entry' seen
+    walk_passes t e = record {
+      only = w.only;
+      lies = λ k z. newest_lies bucket b j k (sym next ∙ z);
+      below = omega (arith, here is, next, newest_within bucket b j, w.below);
+      within = w.within;
+      holds = w.holds;
+      passed = λ k l m. either_side k j (between k l) (λ o. from k o m);
+    }
       where
-        between : (k : ℕ) → e' ≤ k → k < j → q k ≡ false
-        between k l m = denies (says_itself (q k)) (λ s. newest_passed bucket b j k (rw (next at) at l) m (w.only.lies k s))
+        from : (k : ℕ) → j ≤ k → k < found_or seen n → q k ≡ false
+        from k o m = ⊎_elim (λ z. rw z (sym t ∙ e)) (λ d. w.passed k (omega (arith, here is)) m) (decided (says_eqb k j))
 
-        go : (f : Bool) → f ≡ q j → found' ≡ cond f j found → Walk q bucket b n e' found'
-        go true t p = record {
-          only = w.only;
-          lies = λ k z. newest_lies bucket b j k (sym (next at) ∙ z);
-          below = omega (arith, next at, newest_within bucket b j);
-          within = omega (arith, w.below, w.within);
-          holds = λ l. rw p (sym t);
-          passed = λ k l m. between k l (omega arith);
-        }
-        go false t p = record {
-          only = w.only;
-          lies = λ k z. newest_lies bucket b j k (sym (next at) ∙ z);
-          below = omega (arith, next at, newest_within bucket b j, w.below);
-          within = omega (arith, w.within);
-          holds = λ l. rw p (w.holds (rw p at l));
-          passed = λ k l m. either_side k j (between k l) (λ o. from k o (rw p at m));
-        }
-          where
-            from : (k : ℕ) → j ≤ k → k < found → q k ≡ false
-            from k o m = ⊎_elim (λ z. rw z (sym t)) (λ d. w.passed k (omega arith) m) (decided (says_eqb k j))
-
-pub walk_ends : {q : ℕ → Bool} {bucket : ℕ → ℕ} {b n e found : ℕ} → Walk q bucket b n e found → e ≤ 0 → found ≡ first q n
-walk_ends {q} {bucket} {b} {n} {e} {found} w z =
-    either_side found n
-    (λ l. sym (first_at q n found passed (w.holds l) l))
-    (λ l. let s : found ≡ n = omega (arith, w.within) in s ∙ sym (first_none q n (rw s at passed)))
+pub walk_ends : {q : ℕ → Bool} {bucket : ℕ → ℕ} {b n : ℕ} {entry seen : Option ℕ} → Walk q bucket b n entry seen → entry ≡ None → seen ≡ found q n
+walk_ends {q} {bucket} {b} {n} {entry} {seen} w z = go seen w.holds w.passed
   where
-    passed : Passed q found
-    passed = record { at = λ k l. w.passed k (omega arith) l }
+    past : standing entry ≡ 0
+    past = ap standing z
+
+    go : (o : Option ℕ) → ((j : ℕ) → o ≡ Some j → (j < n) × (q j ≡ true)) → ((j : ℕ) → standing entry ≤ j → j < found_or o n → q j ≡ false)
+        → o ≡ found q n
+    go None h p = sym (found_none q n (record { at = λ k l. p k (omega (arith, past)) l }))
+    go (Some j) h p = let s = h j refl in sym (found_at q n j (record { at = λ k l. p k (omega (arith, past)) l }) s.1 s.0)
 
 -- `search walking` answers every need of such a loop, once it is told that only entries of the bucket pass
-pub ruleset walking = (walk_begins, walk_falls, walk_goes, walk_ends, steps_begin, steps_go, rules)
+pub ruleset walking = (walk_begins, walk_falls, walk_finds, walk_passes, walk_ends, steps_begin, steps_go, rules)

@@ -2,8 +2,8 @@
 // added; an entry stands in the lists as its number plus 1, so that 0 is none. Keys are not copied: who looks up walks a chain and compares entry by entry.
 #![tactic(auto)]
 
-ghost use Rattle.std.specs.Prelude.{cond, ◌≡◌, ◌+◌, ◌<◌, length, replicate};
-ghost use Rattle.chains.specs.Chains.{Added};
+ghost use Rattle.std.specs.Prelude.{◌≡◌, ◌+◌, ◌<◌, length, replicate, get_or};
+ghost use Rattle.chains.specs.Chains.{Added, entry_in};
 ghost use Rattle.chains.specs.Mixed.{buckets, mixed};
 
 use diagrams::MOST_RECORDS;
@@ -11,14 +11,8 @@ use diagrams::MOST_RECORDS;
 // Two for each record, so that a chain has half an entry on average in a full table. Heads and links of all records take 49,154 bytes.
 pub const BUCKETS: usize = 2 * MOST_RECORDS;
 
-// No entry in any bucket. The last bucket, which `mix` never gives, is for entries that nobody looks up.
-pub fn no_heads() -> [u16; BUCKETS + 1]
-    ensures { result ≡ replicate (buckets + 1) 0 }
-{
-    [0u16; BUCKETS + 1]
-}
-
 // The bucket of three numbers; of two, with 0 for the first.
+#[tactic(auto, unfolding(crate::specs::Mixed::mixed))]
 pub fn mix(v: usize, a: usize, b: usize) -> usize
     requires { ((v < 65536) × (a < 65536)) × (b < 65536) }
     ensures { (result ≡ mixed v a b) × (result < buckets) }
@@ -26,18 +20,45 @@ pub fn mix(v: usize, a: usize, b: usize) -> usize
     (v * 2246822519 + a * 2654435761 + b * 3266489917) / 262144 % BUCKETS
 }
 
-// Entry e to the front of bucket b.
-pub fn add(head: &mut [u16], link: &mut [u16], b: usize, e: usize)
-    requires { ((b < length head.old) × (e < length link.old)) × (e < 65535) }
-    ensures { Added head.old link.old b e head.new link.new }
-{
-    link[e] = head[b];
-    head[b] = (e + 1) as u16;
+// Room for ROOM entries. The last bucket, which `mix` never gives, is for entries that nobody looks up.
+#[derive(Drop)]
+pub struct Chains<const ROOM: usize> {
+    head: [u16; BUCKETS + 1],
+    link: [u16; ROOM],
 }
 
-// The entry at hand where it passes, else the one that was found before: a function, so that the loop of a walk has one way through.
-pub fn pick(passes: bool, entry: usize, found: usize) -> usize
-    ensures { result ≡ cond passes entry found }
-{
-    if passes { entry } else { found }
+impl<const ROOM: usize> Chains<ROOM> {
+    // No entry in any bucket.
+    pub fn new() -> Chains<ROOM>
+        ensures { (result.head ≡ replicate (buckets + 1) 0) × (length result.link ≡ ROOM) }
+    {
+        let head = [0u16; BUCKETS + 1];
+        let link = [0u16; ROOM];
+        Chains { head, link }
+    }
+
+    // The newest entry of bucket b.
+    pub fn newest(&self, b: usize) -> Option<usize>
+        requires { b < length self.now.head }
+        ensures { result ≡ entry_in (get_or self.now.head b 0) }
+    {
+        usize::from(self.head[b]).checked_sub(1)
+    }
+
+    // The one before entry e in its bucket.
+    pub fn before(&self, e: usize) -> Option<usize>
+        requires { e < length self.now.link }
+        ensures { result ≡ entry_in (get_or self.now.link e 0) }
+    {
+        usize::from(self.link[e]).checked_sub(1)
+    }
+
+    // Entry e to the front of bucket b.
+    pub fn add(&mut self, b: usize, e: usize)
+        requires { ((b < length self.old.head) × (e < length self.old.link)) × (e < 65535) }
+        ensures { Added self.old.head self.old.link b e self.new.head self.new.link }
+    {
+        self.link[e] = self.head[b];
+        self.head[b] = (e + 1) as u16;
+    }
 }

@@ -3,7 +3,8 @@ use Rattle.std.specs.Prelude.{ℕ, ◌+◌, ◌*◌, ◌<◌, Bool, ◌&&◌, Li
 use Rattle.std.proofs.Math.Path.{ap}
 use Rattle.std.proofs.Common.{◌∙◌, arith}
 use Rattle.std.proofs.Math.Dec.{eqb, ltb}
-use Rattle.lists.specs.First.{first, first_agrees}
+use Rattle.lists.specs.First.{first_agrees}
+use Rattle.lists.specs.Found.{found, found_agrees}
 use Rattle.lists.specs.Says.{agree, says_eqb}
 use Rattle.diagrams.specs.Layout.{record_size, variable_at, low_at, high_at, is_used}
 use Rattle.diagrams.specs.Bytes.{Bytes, pair_small}
@@ -25,8 +26,8 @@ module _ (t : List ℕ) (b : Bytes t) where
   key_agrees : (i j : ℕ) → eqb (key_at t j) (key_at t i) ≡ same_record t i j
   key_agrees i j = agree (says_eqb (key_at t j) (key_at t i)) (same_says t i j) (same_key i j) (λ s. omega (arith, s.0.0, s.0.1, s.1))
 
-  pub late_repeats : (n : ℕ) {class : List ℕ} → Classes (key_at t) n class → first (late t class) n ≡ first (repeats t) n
+  pub late_repeats : (n : ℕ) {class : List ℕ} → Classes (key_at t) n class → found (late t class) n ≡ found (repeats t) n
   unfolding late repeats class_of
   late_repeats n {class} c =
-      first_agrees (late t class) (repeats t) n
+      found_agrees (late t class) (repeats t) n
       (λ i l. ap (λ k. is_used t i && ltb k i) (c.each i l ∙ first_agrees (λ j. eqb (key_at t j) (key_at t i)) (same_record t i) i (λ j h. key_agrees i j)))

@@ -1,31 +1,31 @@
 // Each used record looks along the chain of its bucket for an earlier one that is the same. Free records have a bucket of their own, in which none looks.
-ghost use Rattle.std.specs.Prelude.{◌≡◌, ◌+◌, ◌<◌, ◌≤◌};
+ghost use Rattle.std.specs.Prelude.{◌≡◌, ◌+◌, ◌<◌, ◌≤◌, IfOk};
+ghost use Rattle.lists.specs.Found.{found};
 ghost use Rattle.diagrams.specs.Layout.{most_records, records, InTable};
 ghost use Rattle.chains.specs.Mixed.{buckets};
-ghost use Rattle.chains.specs.Chains.{Chained};
 ghost use Rattle.check_repeats.specs.Buckets.{bucket_at};
-ghost use Rattle.check_repeats.specs.Searching.{Next, Walks, Looks, Enters, Told};
+ghost use Rattle.check_repeats.specs.Repeats.{repeats};
+ghost use Rattle.check_repeats.specs.Searching.{Next, Walks, Looks, Enters};
 
 use super::is_same;
-use diagrams::{MOST_RECORDS, RecordNumber, wide16};
+use chains::Chains;
+use diagrams::{MOST_RECORDS, RecordNumber};
 
-// What came of the search: its end, at the first repeating record or past the last one, or too many steps along crowded chains.
+// The search was given up: too many steps along crowded chains.
 #[derive(Clone, Copy)]
-pub enum Searched {
-    Ended(usize),
-    Crowded,
-}
+pub struct Crowded;
 
 // What a walk along a chain found, and how many entries it met.
 #[derive(Clone, Copy)]
-pub struct Walked {
-    pub found: usize,
-    pub met: usize,
+struct Walked {
+    found: Option<usize>,
+    met: usize,
 }
 
 // Two for each record of a full table. An even mixture takes a quarter for each.
 const MOST_STEPS: usize = 2 * MOST_RECORDS;
 
+#[tactic(auto, unfolding(crate::specs::Buckets::bucket_of))]
 fn bucket(table: &[u8], i: RecordNumber) -> usize
     requires { InTable table.now i.0 }
     ensures { (result ≡ bucket_at table.now i.0) × (result < buckets + 1) }
@@ -36,72 +36,66 @@ fn bucket(table: &[u8], i: RecordNumber) -> usize
     chains::mix(i.variable(table).0, i.low(table).0, i.high(table).0)
 }
 
-// The first record before i that is the same; i where there is none. b is its bucket.
-fn first_same(table: &[u8], head: &[u16], link: &[u16], b: usize, i: RecordNumber) -> Walked
-    requires { Next table.now i.0 head.now link.now × ((b ≡ bucket_at table.now i.0) × (b < buckets + 1)) }
+// The first record before i that is the same. b is its bucket.
+fn first_same(table: &[u8], chains: &Chains<MOST_RECORDS>, b: usize, i: RecordNumber) -> Walked
+    requires { Next table.now i.0 chains.now.head chains.now.link × ((b ≡ bucket_at table.now i.0) × (b < buckets + 1)) }
     ensures { Walks table.now i.0 result }
 {
-    let mut found = i.0;
+    let mut found = None;
     let mut met = 0;
-    let mut e = wide16(head[b]);
-    while 0 < e {
-        let j = e - 1;
-        found = chains::pick(is_same(table, i, RecordNumber(j)), j, found);
-        e = wide16(link[j]);
+    let mut entry = chains.newest(b);
+    while let Some(j) = entry {
+        if is_same(table, i, RecordNumber(j)) {
+            found = Some(j);
+        }
+        entry = chains.before(j);
         met += 1;
     }
     Walked { found, met }
 }
 
 // The same for a used record. A free one repeats none.
-fn look(table: &[u8], head: &[u16], link: &[u16], b: usize, i: RecordNumber) -> Walked
-    requires { Next table.now i.0 head.now link.now × ((b ≡ bucket_at table.now i.0) × (b < buckets + 1)) }
+#[tactic(auto, unfolding(crate::specs::Repeats::repeats), using(crate::specs::Searching::found_some))]
+fn look(table: &[u8], chains: &Chains<MOST_RECORDS>, b: usize, i: RecordNumber) -> Walked
+    requires { Next table.now i.0 chains.now.head chains.now.link × ((b ≡ bucket_at table.now i.0) × (b < buckets + 1)) }
     ensures { Looks table.now i.0 result }
 {
     if i.is_used(table) {
-        return first_same(table, head, link, b, i);
+        return first_same(table, chains, b, i);
     }
-    Walked { found: i.0, met: 0 }
+    Walked {
+        found: None,
+        met: 0,
+    }
 }
 
 // Record i looks, and goes to the front of its bucket.
-fn enter(table: &[u8], head: &mut [u16], link: &mut [u16], i: RecordNumber) -> Walked
-    requires { Next table.now i.0 head.old link.old }
-    ensures { Enters table.now i.0 result head.new link.new }
+fn enter(table: &[u8], chains: &mut Chains<MOST_RECORDS>, i: RecordNumber) -> Walked
+    requires { Next table.now i.0 chains.old.head chains.old.link }
+    ensures { Enters table.now i.0 result chains.new.head chains.new.link }
 {
     let b = bucket(table, i);
-    let walked = look(table, head, link, b, i);
-    chains::add(head, link, b, i.0);
+    let walked = look(table, chains, b, i);
+    chains.add(b, i.0);
     walked
 }
 
-fn search_in(table: &[u8], head: &mut [u16], link: &mut [u16]) -> Searched
-    requires { (records table.now ≤ most_records) × Chained (bucket_at table.now) most_records 0 head.old link.old }
-    ensures { Told table.now result }
+// The first repeat, unless the chains are crowded.
+pub fn search(table: &[u8]) -> Result<Option<usize>, Crowded>
+    requires { records table.now ≤ most_records }
+    ensures { IfOk result (λ place. place ≡ found (repeats table.now) (records table.now)) }
 {
-    let m = diagrams::count_records(table);
+    let mut chains = Chains::<MOST_RECORDS>::new();
     let mut steps = 0;
-    let mut i = 0;
-    while i < m {
-        let walked = enter(table, head, link, RecordNumber(i));
-        let found = walked.found;
-        if found < i {
-            return Searched::Ended(i);
+    for i in 0..diagrams::count_records(table) {
+        let walked = enter(table, &mut chains, RecordNumber(i));
+        if walked.found.is_some() {
+            return Ok(Some(i));
         }
         steps += walked.met;
         if MOST_STEPS < steps {
-            return Searched::Crowded;
+            return Err(Crowded);
         }
-        i += 1;
     }
-    Searched::Ended(m)
-}
-
-pub fn search(table: &[u8]) -> Searched
-    requires { records table.now ≤ most_records }
-    ensures { Told table.now result }
-{
-    let mut head = chains::no_heads();
-    let mut link = [0u16; MOST_RECORDS];
-    search_in(table, &mut head, &mut link)
+    Ok(None)
 }

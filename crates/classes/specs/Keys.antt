@@ -2,10 +2,8 @@
 use Rattle.std.specs.Prelude.{ℕ, ◌+◌, ◌*◌, ◌/◌, ◌%◌, ◌^◌, ◌≤◌, ◌<◌, List, ◌≡◌, refl, get_or}
 use Rattle.std.proofs.Common.{ap, sym, ◌∙◌, pow-suc, add-one, arith}
 use Rattle.std.proofs.Math.Nat.{div-div-eq-div-mul}
-use Rattle.diagrams.specs.Layout.{record_size, most_records, variable_at, low_at, high_at}
-use Rattle.diagrams.specs.Bytes.{Bytes, pair_small}
+use Rattle.diagrams.specs.Layout.{most_records, variable_at, low_at, high_at}
 use Rattle.classes.specs.Classes.{Classes, Alike, class_within, class_key, key_class, classes_alike}
-use Rattle.classes.specs.Pass.{slots, Entered}
 
 abbrev pub key_at : List ℕ → ℕ → ℕ
 key_at t i = variable_at t i + 256 * (low_at t i + 65536 * high_at t i)
@@ -25,27 +23,14 @@ rest = 27
 unfoldable pub place_at : List ℕ → List ℕ → ℕ → ℕ → ℕ
 place_at t class k i = 2 * get_or class i 0 + bit_at t k i
 
--- record i goes to the slot of its leading bits, and to that of its class so far and its bit k
-abbrev pub Led : List ℕ → ℕ → List ℕ → List ℕ → List ℕ → List ℕ → Type 0
-Led t i class slot class' slot' = Entered class slot i (part t rest i) class' slot'
-
-abbrev pub Split : List ℕ → ℕ → ℕ → List ℕ → List ℕ → List ℕ → List ℕ → Type 0
-Split t k i class slot class' slot' = Entered class slot i (place_at t class k i) class' slot'
-
--- ---- there is a slot for each place
-
-pub lead_small : (t : List ℕ) → Bytes t → (i : ℕ) → part t rest i < slots
-unfolding part
-lead_small t b i = omega (arith, (b (record_size * i)).fits, pair_small t (record_size * i + 2) b, pair_small t (record_size * i + 4) b)
+-- ---- what fits
 
 bit_small : (t : List ℕ) (k i : ℕ) → bit_at t k i < 2
 unfolding bit_at
 bit_small t k i = omega arith
 
-pub place_small : (t : List ℕ) (k n : ℕ) {key : ℕ → ℕ} {class : List ℕ} → Classes key n class → n ≤ most_records
-    → (i : ℕ) → i < n → place_at t class k i < slots
-unfolding place_at
-place_small t k n {key} c h i l = omega (arith, bit_small t k i, c.each i l, class_within key i)
+pub class_small : {n : ℕ} {key : ℕ → ℕ} {class : List ℕ} → Classes key n class → n ≤ most_records → (i : ℕ) → i < n → get_or class i 0 < most_records
+class_small {n} {key} c h i l = omega (arith, c.each i l, class_within key i)
 
 -- ---- one bit more
 half : (t : List ℕ) (k i : ℕ) → part t (k + 1) i ≡ part t k i / 2
@@ -70,6 +55,10 @@ place_alike t k n {class} c = record {
       let b = bit_is t k j ∙ ap (λ x. x % 2) e ∙ sym (bit_is t k i) in
       omega (arith, c.each j (omega arith), c.each i l);
 }
+
+pub one_bit_more : (t : List ℕ) (k n : ℕ) {class class' : List ℕ} → Classes (part t (k + 1)) n class → Classes (place_at t class k) n class'
+    → Classes (part t k) n class'
+one_bit_more t k n c d = classes_alike (place_alike t k n c) d
 
 -- all bits
 pub whole : (t : List ℕ) (n : ℕ) {class : List ℕ} → Classes (part t 0) n class → Classes (key_at t) n class

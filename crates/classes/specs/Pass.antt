@@ -1,10 +1,10 @@
 -- One pass over n entries, each of which goes to a slot: its class is the first entry that came there. A slot holds that entry's number plus 1; 0 is none.
 use Rattle.std.specs.Prelude.{ℕ, suc, ◌+◌, ◌-◌, ◌*◌, ◌≤◌, ◌<◌, Bool, true, cond, List, ◌≡◌, refl, eqb, ltb, set, replicate}
-use Rattle.std.proofs.Common.{zero-le, sym, ◌∙◌, ⊎_elim, not-suc-le-zero, add-one, arith, eq-eqb, ne_eqb, lt-ltb, le-ltb, get_or-set_same, get_or-set_other}
+use Rattle.std.proofs.Common.{sym, ◌∙◌, ⊎_elim, not-suc-le-zero, add-one, arith, eq-eqb, ne_eqb, lt-ltb, le-ltb, get_or-set_same, get_or-set_other}
 use Rattle.std.proofs.Math.Path.{ap}
 use borrow.Author.Count.{below_more}
 use Rattle.std.proofs.Math.ListN.{length, get_or, length-set}
-use Rattle.std.proofs.lemmas.List.{length-replicate, get_or-replicate}
+use Rattle.std.proofs.lemmas.List.{get_or-replicate}
 use Rattle.lists.specs.First.{first, passed_more, first_at, first_none, first_passed, first_holds, first_within}
 use Rattle.lists.specs.Says.{either_side, decided, says_eqb}
 use Rattle.diagrams.specs.Layout.{most_records}
@@ -72,77 +72,60 @@ pub record Entered (class slot : List ℕ) (i x : ℕ) (class' slot' : List ℕ)
   pub slot_now : slot' ≡ set slot x (come (get_or slot x 0) i)
   pub class_now : class' ≡ set class i (come (get_or slot x 0) i - 1)
 
--- there is room for it
-pub record Roomy (place : ℕ → ℕ) (i : ℕ) (class slot : List ℕ) : Type 0 where
-  pub few : i < most_records
-  pub a_place : i < length class
-  pub a_slot : place i < length slot
-
--- ---- the pass at entry i: those before it have their class by place, the others what they had before
-pub record Passing (place : ℕ → ℕ) (n i : ℕ) (before class slot : List ℕ) : Type 0 where
-  pub within : i ≤ n
-  pub room : n ≤ length class
-  pub as_long : length class ≡ length before
-  pub all_slots : length slot ≡ slots
-  pub inside : (k : ℕ) → k < n → place k < slots
+-- ---- a pass at entry i: those before it have their class by place
+pub record Passing (place : ℕ → ℕ) (i : ℕ) (class slot : List ℕ) : Type 0 where
   pub done : (k : ℕ) → k < i → get_or class k 0 ≡ class_of place k
-  pub left : (k : ℕ) → i ≤ k → get_or class k 0 ≡ get_or before k 0
   pub holds : (x : ℕ) → x < slots → get_or slot x 0 ≡ held place x i
 
--- before the first entry
-abbrev pub Ready : (ℕ → ℕ) → ℕ → List ℕ → List ℕ → Type 0
-Ready place n class slot = Passing place n 0 class class slot
-
-pub passing_begins : {place : ℕ → ℕ} {n : ℕ} {class slot : List ℕ} → slot ≡ replicate slots 0 → n ≤ length class
-    → ((k : ℕ) → k < n → place k < slots) → Ready place n class slot
+pub passing_begins : {place : ℕ → ℕ} {class slot : List ℕ} → slot ≡ replicate slots 0 → Passing place 0 class slot
 unfolding held first
-passing_begins {place} {n} {class} {slot} e l h = record {
-  within = zero-le;
-  room = l;
-  as_long = refl;
-  all_slots = ap length e ∙ length-replicate {A = ℕ} slots 0;
-  inside = h;
+passing_begins e = record {
   done = λ k q. absurd (not-suc-le-zero q);
-  left = λ k q. refl;
   holds = λ x q. rw e (get_or-replicate {A = ℕ} slots x 0 0 q);
 }
 
-module _ {place : ℕ → ℕ} {n i : ℕ} {before class slot : List ℕ} (p : Passing place n i before class slot) (l : i < n) where
-  pub passing_room : n ≤ most_records → Roomy place i class slot
-  passing_room h = record { few = omega arith; a_place = omega (arith, p.room); a_slot = omega (arith, p.inside i l, p.all_slots) }
+-- entries from i on have what they had before the pass
+pub record Kept (before class : List ℕ) (i : ℕ) : Type 0 where
+  pub as_long : length class ≡ length before
+  pub left : (k : ℕ) → i ≤ k → get_or class k 0 ≡ get_or before k 0
 
-  pub passing_goes : {class' slot' : List ℕ} → Entered class slot i (place i) class' slot' → Passing place n (i + 1) before class' slot'
+pub kept_begins : (class : List ℕ) → Kept class class 0
+kept_begins class = record { as_long = refl; left = λ k l. refl }
+
+module _ {class slot : List ℕ} {i x : ℕ} {class' slot' : List ℕ} (s : Entered class slot i x class' slot') where
+  pub entered_slots : length slot' ≡ length slot
+  entered_slots = ap length s.slot_now ∙ length-set slot x _
+
+  other : (k : ℕ) → (k ≡ i → ⊥) → get_or class' k 0 ≡ get_or class k 0
+  other k d = rw s.class_now (get_or-set_other class i k _ 0 d)
+
+  pub kept_goes : {before : List ℕ} → Kept before class i → Kept before class' (i + 1)
+  kept_goes c = record {
+    as_long = ap length s.class_now ∙ length-set class i _ ∙ c.as_long;
+    left = λ k l. other k (λ z. omega arith) ∙ c.left k (omega arith);
+  }
+
+  pub passing_goes : {place : ℕ → ℕ} → Passing place i class slot → x ≡ place i → i < length class → x < slots → length slot ≡ slots
+      → Passing place (i + 1) class' slot'
   unfolding class_of
-  passing_goes {class'} {slot'} s = record {
-    within = omega arith;
-    room = rw long p.room;
-    as_long = long ∙ p.as_long;
-    all_slots = ap length s.slot_now ∙ length-set slot (place i) _ ∙ p.all_slots;
-    inside = p.inside;
+  passing_goes {place} p at l h long = record {
     done = below_more (λ k. get_or class' k 0 ≡ class_of place k) i (λ k h. other k (λ z. omega arith) ∙ p.done k h) now;
-    left = λ k h. other k (λ z. omega arith) ∙ p.left k (omega arith);
     holds = next;
   }
     where
-      long : length class' ≡ length class
-      long = ap length s.class_now ∙ length-set class i _
-
-      other : (k : ℕ) → (k ≡ i → ⊥) → get_or class' k 0 ≡ get_or class k 0
-      other k d = rw s.class_now (get_or-set_other class i k _ 0 d)
-
-      comes : come (get_or slot (place i) 0) i ≡ suc (class_of place i)
-      comes = held_come place (place i) i (p.holds (place i) (p.inside i l))
+      comes : come (get_or slot x 0) i ≡ suc (class_of place i)
+      comes = held_come place x i (p.holds x h) ∙ ap (λ y. suc (first (here place y) i)) at
 
       now : get_or class' i 0 ≡ class_of place i
-      now = rw (s.class_now, get_or-set_same class i (come (get_or slot (place i) 0) i - 1) 0 (omega (arith, p.room))) (omega (arith, comes))
+      now = rw (s.class_now, get_or-set_same class i (come (get_or slot x 0) i - 1) 0 l) (omega (arith, comes))
 
       next : (y : ℕ) → y < slots → get_or slot' y 0 ≡ held place y (i + 1)
-      next y h =
+      next y m =
           ⊎_elim
-          (λ z. rw (s.slot_now, ← z, get_or-set_same slot (place i) (come (get_or slot (place i) 0) i) 0 (omega (arith, p.inside i l, p.all_slots)))
-          (comes ∙ sym (held_here place (place i) i refl)))
-          (λ d. rw (s.slot_now, get_or-set_other slot (place i) y _ 0 (λ z. d (sym z))) (p.holds y h ∙ sym (held_there place y i d)))
-          (decided (says_eqb (place i) y))
+          (λ z. rw (s.slot_now, ← z, get_or-set_same slot x (come (get_or slot x 0) i) 0 (omega arith))
+          (held_come place x i (p.holds x h) ∙ sym (held_here place x i (sym at))))
+          (λ d. rw (s.slot_now, get_or-set_other slot x y _ 0 (λ z. d (sym z))) (p.holds y m ∙ sym (held_there place y i (λ z. d (at ∙ z)))))
+          (decided (says_eqb x y))
 
-pub passing_ends : {place : ℕ → ℕ} {n i : ℕ} {before class slot : List ℕ} → Passing place n i before class slot → n ≤ i → Classes place n class
-passing_ends p h = record { room = p.room; each = λ k l. p.done k (omega arith) }
+pub passing_ends : {place : ℕ → ℕ} {n i : ℕ} {class slot : List ℕ} → Passing place i class slot → i ≡ n → n ≤ length class → Classes place n class
+passing_ends p e h = record { room = h; each = λ k l. p.done k (omega arith) }
