@@ -1,5 +1,5 @@
 -- What std's search through the numbers below n from the last one gives, in the words of `found_last`.
-use Rattle.std.specs.Prelude.{ℕ, suc, ◌+◌, ◌-◌, ◌<◌, Bool, true, false, List, [], ◌∷◌, Option, Some, None, ◌≡◌, refl, MatchOption, ⊤}
+use Rattle.std.specs.Prelude.{ℕ, suc, Bool, true, false, List, [], ◌∷◌, Option, Some, None, ◌≡◌, MatchOption, ⊤}
 use Rattle.std.proofs.Common.{ap, sym, ◌∙◌, subst, arith, Bor}
 use Rattle.std.specs.Iterator.{Yields, YieldsThen}
 use Rattle.std.specs.Iterator.Adapters.{rev_source, rev_steps}
@@ -35,7 +35,7 @@ module _ {F : Type 0} {g : Mut F (Bor ℕ × Unit {0}) Bool} (f : F) (p : ℕ �
   -- `(0..n).rev().find(|&i| ..)`, whose closure answers p at each number and changes nothing
   pub found_by_rev_find : (s u : Rev (Range ℕ)) (r : Option ℕ) {m n : ℕ} → rev_source s ≡ record { start = 0; end = m } → m ≡ n
       → (xs : List ℕ) × (j : F) × YieldsThen (rev_steps nat_range_steps_back) s xs r u × FoldsTo (λ a x q. CalledAt g a x false q) f xs j
-          × MatchOption r ⊤ (λ x. (h : F) × CalledAt g j x true h)
+      × MatchOption r ⊤ (λ x. (h : F) × CalledAt g j x true h)
       → r ≡ found_last p n
   found_by_rev_find s u r {m} {n} e z ran =
       let w = passed ran.0 s ran.2.0 ran.1 (ap (λ (k : Range ℕ). k.start) e) ran.2.1 ran.3 in

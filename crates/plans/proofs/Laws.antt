@@ -1,6 +1,6 @@
 -- What each function's return is, over plain variables.
-use Rattle.std.specs.Prelude.{ℕ, ◌+◌, ◌-◌, ◌≤◌, ◌<◌, Bool, false, not, List, Option, Some, None, ◌≡◌, eqb, ltb, length, get_or, take}
-use Rattle.std.proofs.Common.{ap, ap₂, sym, ◌∙◌, arith, rules, length-take-le, get_or-take}
+use Rattle.std.specs.Prelude.{ℕ, ◌+◌, ◌-◌, ◌≤◌, ◌<◌, Bool, not, List, Option, Some, None, ◌≡◌, eqb, ltb, length, get_or, take}
+use Rattle.std.proofs.Common.{ap, ap₂, sym, ◌∙◌, arith, length-take-le, get_or-take}
 use lib.Pointwise.{pointwise, bytes_decides}
 use Rattle.lists.specs.Found.{found}
 use Rattle.lists.specs.Count.{count}
@@ -102,6 +102,10 @@ module _ {o g : Order} {n : ℕ} (a : (Arranged o n) × (Arranged g n)) where
 
     pub highest_returns : r ≡ found (inverted_at (bytes_of o n) (bytes_of g n)) (n - 1) → r ≡ next_level highest_inversion (bytes_of o n) (bytes_of g n)
     highest_returns s = highest_next (bytes_of o n) (bytes_of g n) a.0.permutation a.1.permutation (arranged_same_length a.0 a.1) (rw (arranged_length a.0) s)
+
+pub ruleset bringing = (nowhere_first, first_inside, below_top, bring_up_returns)
+
+pub ruleset sinking = (nowhere_last, last_inside, sink_down_returns)
 
 -- ---- the next level by a plan that was taken apart
 pub next_returns : (o g : List ℕ) {a b : coded.Plan} {x : Option ℕ} → a ≡ b → x ≡ next_level (meant b) o g → x ≡ next_level (meant a) o g

@@ -1,5 +1,5 @@
 -- The level that a plan names where order and target differ, and whether they do, by a search for a level where they do.
-use Rattle.std.specs.Prelude.{ℕ, ◌<◌, Bool, true, false, not, cond, List, Option, Some, None, ◌≡◌, refl, length}
+use Rattle.std.specs.Prelude.{ℕ, ◌<◌, Bool, true, false, not, cond, List, Some, None, ◌≡◌, refl, length}
 use Rattle.std.proofs.Common.{ap, sym, lt-ltb, le-ltb, le_refl}
 use Rattle.lists.specs.Apart.{apart}
 use Rattle.lists.specs.First.{Passed, first_below, first_none}
@@ -49,17 +49,17 @@ module _ (plan : Plan) (o g : List ℕ) where
   unfolding next_level
   next_none e = rw e
 
-  pub some_next : {k : ℕ} → next_level plan o g ≡ Some k → (same? o g ≡ false) × (k ≡ plan o g)
+  pub some_next : {k : ℕ} → Some k ≡ next_level plan o g → (same? o g ≡ false) × (k ≡ plan o g)
   unfolding next_level
-  some_next {k} h = by (same? o g) refl h
+  some_next {k} h = by (same? o g) refl (sym h)
     where
       by : (b : Bool) → same? o g ≡ b → cond b None (Some (plan o g)) ≡ Some k → (same? o g ≡ false) × (k ≡ plan o g)
       by true e q = apart (cc)
       by false e q = (e, cc)
 
-  pub none_next : next_level plan o g ≡ None → same? o g ≡ true
+  pub none_next : None ≡ next_level plan o g → same? o g ≡ true
   unfolding next_level
-  none_next h = by (same? o g) refl h
+  none_next h = by (same? o g) refl (sym h)
     where
       by : (b : Bool) → same? o g ≡ b → cond b None (Some (plan o g)) ≡ None → same? o g ≡ true
       by true e q = e

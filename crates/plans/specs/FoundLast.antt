@@ -1,5 +1,5 @@
 -- The greatest index below n at which a test holds, if there is one.
-use Rattle.std.specs.Prelude.{ℕ, zero, suc, ◌+◌, ◌<◌, Bool, true, false, cond, Option, Some, None, ◌≡◌, refl}
+use Rattle.std.specs.Prelude.{ℕ, zero, suc, ◌<◌, Bool, true, false, cond, Option, Some, None, ◌≡◌, refl}
 use Rattle.std.proofs.Common.{sym, ◌∙◌, le_refl, add-one, arith}
 use Rattle.lists.specs.Apart.{apart}
 use Rattle.lists.specs.First.{Passed, passed_none, passed_more}

@@ -17,12 +17,11 @@ ghost use Rattle.plans.specs.Numbered.{meant, Numbers};
 
 mod course;
 
+pub use course::Course;
 use diagrams::Variable;
 use orders::Order;
 
-pub use course::Course;
-
-// ---- by number
+// ---- the plans, by number
 
 #[derive(Clone, Copy, PartialEq, Eq)]
 pub enum Plan {
@@ -74,7 +73,9 @@ fn above(order: &Order, n: usize, u: Variable, v: Variable) -> bool
 }
 
 impl Course {
-    // The upper one of the two levels that the plan swaps next; none where order equals target.
+    // ---- the plans: the upper one of the two levels to swap next; none where order equals target
+
+    // By any plan.
     #[tactic(auto, using(crate::proofs::Laws::next_returns), unfolding(crate::specs::Numbered::meant, crate::specs::Numbered::plan_of))]
     pub fn next_level(&self, plan: Plan) -> Option<usize>
         ensures { result ≡ next_level (meant plan) (from self.now) (to self.now) }
@@ -88,21 +89,21 @@ impl Course {
     }
 
     // Bring Up: the target's variable of the first level that differs goes up one level.
+    #[tactic(auto, using(crate::proofs::Laws::bringing))]
     fn bring_up(&self) -> Option<usize>
         ensures { result ≡ next_level bring_up (from self.now) (to self.now) }
     {
         let level = self.first_difference()?;
-        let p = self.level_of_target(level);
-        Some(p - 1)
+        Some(self.level_of_target(level) - 1)
     }
 
     // Sink Down: the target's variable of the last level that differs goes down one level.
+    #[tactic(auto, using(crate::proofs::Laws::sinking))]
     fn sink_down(&self) -> Option<usize>
         ensures { result ≡ next_level sink_down (from self.now) (to self.now) }
     {
         let level = self.last_difference()?;
-        let p = self.level_of_target(level);
-        Some(p)
+        Some(self.level_of_target(level))
     }
 
     // Lowest Inversion: the adjacent inverted pair nearest the bottom.
