@@ -1,7 +1,9 @@
 pub mod Inversions
 pub mod Plans
+pub mod FoundLast
 pub mod Misplaced
 pub mod BringUp
 pub mod SinkDown
 pub mod Nearest
 pub mod Numbered
+pub mod Course

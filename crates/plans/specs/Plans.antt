@@ -1,5 +1,5 @@
 -- Where an order o and its target g differ; and a plan, which says from the two which levels to swap next.
-use Rattle.std.specs.Prelude.{ℕ, zero, suc, Bool, not, List, ◌≡◌, eqb, length, get_or}
+use Rattle.std.specs.Prelude.{ℕ, zero, suc, Bool, not, cond, List, Option, Some, None, ◌≡◌, eqb, length, get_or}
 use Rattle.lists.specs.First.{any}
 use Rattle.orders.specs.Permutation.{Permutation}
 use Rattle.orders.specs.Exchange.{exchange}
@@ -20,6 +20,10 @@ same? o g = not (any (differs_at o g) (length o))
 -- from order and target to the upper one of the two levels to swap
 abbrev pub Plan : Type 0
 Plan = List ℕ → List ℕ → ℕ
+
+-- the level that it names; none where order equals target
+unfoldable pub next_level : Plan → List ℕ → List ℕ → Option ℕ
+next_level plan o g = cond (same? o g) None (Some (plan o g))
 
 -- where the two differ, the plan names an adjacent inverted pair
 pub record Lawful (plan : Plan) : Type 0 where

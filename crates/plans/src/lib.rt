@@ -1,182 +1,29 @@
 // Orders on their way to a target: where the two differ, how many inversions are left, and which levels a plan swaps next.
 #![tactic(auto)]
 
-ghost use Rattle.std.specs.Prelude.{◌≡◌, false, ◌+◌, ◌*◌, ◌<◌, ◌≤◌};
-ghost use Rattle.lists.specs.First.{first};
-ghost use Rattle.lists.specs.Last.{last};
+ghost use Rattle.std.specs.Prelude.{◌≡◌, ◌+◌, ◌*◌, ◌<◌, ◌≤◌, get_or};
+ghost use Rattle.lists.specs.Found.{found};
 ghost use Rattle.lists.specs.Count.{count};
-ghost use Rattle.orders.specs.Permutation.{ceiling};
+ghost use Rattle.orders.specs.Permutation.{ceiling, level_of};
 ghost use Rattle.orders.specs.Arranged.{bytes_of, Arranged};
+ghost use Rattle.plans.specs.FoundLast.{found_last};
+ghost use Rattle.plans.specs.Course.{from, to};
 ghost use Rattle.plans.specs.Inversions.{above, inverted, left};
-ghost use Rattle.plans.specs.Plans.{differs_at, same?};
+ghost use Rattle.plans.specs.Plans.{differs_at, same?, next_level};
 ghost use Rattle.plans.specs.BringUp.{bring_up};
 ghost use Rattle.plans.specs.SinkDown.{sink_down};
 ghost use Rattle.plans.specs.Nearest.{inverted_at, lowest_inversion, highest_inversion};
-ghost use Rattle.plans.specs.Numbered.{plan_of, no_plan, meant};
+ghost use Rattle.plans.specs.Numbered.{meant, Numbers};
 
+mod course;
+
+pub use course::Course;
 use diagrams::Variable;
 use orders::Order;
 
-// ---- order and target
+// ---- the plans, by number
 
-fn differs_at(order: Order, target: Order, level: usize) -> bool
-    requires { level < ceiling }
-    ensures { result ≡ differs_at order.variables target.variables level }
-{
-    order.variables[level] != target.variables[level]
-}
-
-// The first level, from the top, where order and target differ; n where they differ at none of n.
-fn first_difference(order: Order, target: Order, n: usize) -> usize
-    requires { n ≤ ceiling }
-    ensures { result ≡ first (differs_at order.variables target.variables) n }
-{
-    let mut k = 0;
-    while k < n {
-        if differs_at(order, target, k) {
-            return k;
-        }
-        k += 1;
-    }
-    n
-}
-
-// The last level, nearest the bottom, where order and target differ; 0 where they differ at none of n.
-fn last_difference(order: Order, target: Order, n: usize) -> usize
-    requires { n ≤ ceiling }
-    ensures { result ≡ last (differs_at order.variables target.variables) n }
-{
-    let mut k = n;
-    while 0 < k {
-        k -= 1;
-        if differs_at(order, target, k) {
-            return k;
-        }
-    }
-    0
-}
-
-// Does order equal target?
-pub fn same(order: Order, target: Order, n: usize) -> bool
-    requires { n ≤ ceiling }
-    ensures { result ≡ same? (bytes_of order n) (bytes_of target n) }
-{
-    !(first_difference(order, target, n) < n)
-}
-
-// ---- the inversions left
-
-// Does u stand above v?
-fn above(order: Order, n: usize, u: Variable, v: Variable) -> bool
-    requires { Arranged order n }
-    ensures { result ≡ above (bytes_of order n) u.0 v.0 }
-{
-    order.level_of(n, u) < order.level_of(n, v)
-}
-
-// Does the relative order of u and v differ between order and target?
-fn inverted(order: Order, target: Order, n: usize, u: Variable, v: Variable) -> bool
-    requires { (Arranged order n) × (Arranged target n) }
-    ensures { result ≡ inverted (bytes_of order n) (bytes_of target n) u.0 v.0 }
-{
-    (above(order, n, u, v) & above(target, n, v, u))
-        | (above(order, n, v, u) & above(target, n, u, v))
-}
-
-// With how many of the variables before it v is inverted.
-fn inverted_before(order: Order, target: Order, n: usize, v: Variable) -> usize
-    requires { (Arranged order n) × (Arranged target n) }
-    ensures { (result ≡ count (λ u. inverted (bytes_of order n) (bytes_of target n) u v.0) v.0) × (result ≤ v.0) }
-{
-    let m = v.0;
-    let mut found: usize = 0;
-    let mut u = 0;
-    while u < m {
-        found += diagrams::one(inverted(order, target, n, Variable(u), v));
-        u += 1;
-    }
-    found
-}
-
-// How many inversions there are, each pair counted once.
-pub fn left(order: Order, target: Order, n: usize) -> usize
-    requires { (Arranged order n) × (Arranged target n) }
-    ensures { (result ≡ left (bytes_of order n) (bytes_of target n)) × (result ≤ ceiling * ceiling) }
-{
-    let mut sum: usize = 0;
-    let mut v = 0;
-    while v < n {
-        sum += inverted_before(order, target, n, Variable(v));
-        v += 1;
-    }
-    sum
-}
-
-// Do levels k and k + 1 hold an inverted pair?
-fn inverted_at(order: Order, target: Order, n: usize, level: usize) -> bool
-    requires { (Arranged order n) × (Arranged target n) × (level + 1 < n) }
-    ensures { result ≡ inverted_at (bytes_of order n) (bytes_of target n) level }
-{
-    let upper = order.variable_at(level);
-    let lower = order.variable_at(level + 1);
-    inverted(order, target, n, upper, lower)
-}
-
-// ---- the plans: the upper one of the two levels to swap, where order and target differ
-
-// Bring Up: the target's variable of the first level that differs goes up one level.
-fn bring_up(order: Order, target: Order, n: usize) -> usize
-    requires { (Arranged order n) × (Arranged target n) × (same? (bytes_of order n) (bytes_of target n) ≡ false) }
-    ensures { result ≡ bring_up (bytes_of order n) (bytes_of target n) }
-{
-    let k = first_difference(order, target, n);
-    let p = order.level_of(n, target.variable_at(k));
-    p - 1
-}
-
-// Sink Down: the target's variable of the last level that differs goes down one level.
-fn sink_down(order: Order, target: Order, n: usize) -> usize
-    requires { (Arranged order n) × (Arranged target n) × (same? (bytes_of order n) (bytes_of target n) ≡ false) }
-    ensures { result ≡ sink_down (bytes_of order n) (bytes_of target n) }
-{
-    let k = last_difference(order, target, n);
-    order.level_of(n, target.variable_at(k))
-}
-
-// Lowest Inversion: the adjacent inverted pair nearest the bottom.
-fn lowest_inversion(order: Order, target: Order, n: usize) -> usize
-    requires { (Arranged order n) × (Arranged target n) × (same? (bytes_of order n) (bytes_of target n) ≡ false) }
-    ensures { result ≡ lowest_inversion (bytes_of order n) (bytes_of target n) }
-{
-    let mut k = n - 1;
-    while 0 < k {
-        k -= 1;
-        if inverted_at(order, target, n, k) {
-            return k;
-        }
-    }
-    0
-}
-
-// Highest Inversion: the adjacent inverted pair nearest the top.
-fn highest_inversion(order: Order, target: Order, n: usize) -> usize
-    requires { (Arranged order n) × (Arranged target n) × (same? (bytes_of order n) (bytes_of target n) ≡ false) }
-    ensures { result ≡ highest_inversion (bytes_of order n) (bytes_of target n) }
-{
-    let pairs = n - 1;
-    let mut k = 0;
-    while k < pairs {
-        if inverted_at(order, target, n, k) {
-            return k;
-        }
-        k += 1;
-    }
-    pairs
-}
-
-// ---- by number
-
-#[derive(Clone, Copy)]
+#[derive(Clone, Copy, PartialEq, Eq)]
 pub enum Plan {
     BringUp,
     SinkDown,
@@ -184,37 +31,174 @@ pub enum Plan {
     HighestInversion,
 }
 
-// How many plans there are; they are numbered from 0.
-const PLANS: usize = 4;
+// A number that no plan has.
+#[derive(Clone, Copy, PartialEq, Eq)]
+pub struct NoPlan(pub usize);
 
-// Does no plan have this number?
-pub fn no_plan(number: usize) -> bool
-    ensures { result ≡ no_plan number }
-{
-    PLANS <= number
-}
+impl TryFrom<usize> for Plan {
+    type Error = NoPlan;
 
-// The plan with a number; any other number than theirs is refused before this is asked.
-pub fn numbered(number: usize) -> Plan
-    ensures { meant result ≡ plan_of number }
-{
-    match number {
-        0 => Plan::BringUp,
-        1 => Plan::SinkDown,
-        2 => Plan::LowestInversion,
-        _ => Plan::HighestInversion,
+    ghost try_from_gives = { Numbers };
+
+    #[tactic(auto, unfolding(crate::specs::Numbered::meant, crate::specs::Numbered::no_plan))]
+    fn try_from(number: usize) -> Result<Plan, NoPlan> {
+        match number {
+            0 => Ok(Plan::BringUp),
+            1 => Ok(Plan::SinkDown),
+            2 => Ok(Plan::LowestInversion),
+            3 => Ok(Plan::HighestInversion),
+            _ => Err(NoPlan(number)),
+        }
     }
 }
 
-// The upper one of the two levels that the plan swaps next.
-pub fn next_level(plan: Plan, order: Order, target: Order, n: usize) -> usize
-    requires { (Arranged order n) × (Arranged target n) × (same? (bytes_of order n) (bytes_of target n) ≡ false) }
-    ensures { result ≡ meant plan (bytes_of order n) (bytes_of target n) }
+// ---- order and target
+
+// Does order equal target, both of n variables?
+#[tactic(auto, using(crate::proofs::Laws::same_returns))]
+pub fn same(order: Order, target: Order, n: usize) -> bool
+    requires { n ≤ ceiling }
+    ensures { result ≡ same? (bytes_of order n) (bytes_of target n) }
 {
-    match plan {
-        Plan::BringUp => bring_up(order, target, n),
-        Plan::SinkDown => sink_down(order, target, n),
-        Plan::LowestInversion => lowest_inversion(order, target, n),
-        Plan::HighestInversion => highest_inversion(order, target, n),
+    order.variables[..n] == target.variables[..n]
+}
+
+// Does u stand above v?
+#[tactic(auto, using(crate::proofs::Laws::above_returns))]
+fn above(order: &Order, n: usize, u: Variable, v: Variable) -> bool
+    requires { Arranged order.now n }
+    ensures { result ≡ above (bytes_of order.now n) u.0 v.0 }
+{
+    order.level_of(n, u) < order.level_of(n, v)
+}
+
+impl Course {
+    // ---- the plans: the upper one of the two levels to swap next; none where order equals target
+
+    // By any plan.
+    #[tactic(auto, using(crate::proofs::Laws::next_returns), unfolding(crate::specs::Numbered::meant, crate::specs::Numbered::plan_of))]
+    pub fn next_level(&self, plan: Plan) -> Option<usize>
+        ensures { result ≡ next_level (meant plan) (from self.now) (to self.now) }
+    {
+        match plan {
+            Plan::BringUp => self.bring_up(),
+            Plan::SinkDown => self.sink_down(),
+            Plan::LowestInversion => self.lowest_inversion(),
+            Plan::HighestInversion => self.highest_inversion(),
+        }
+    }
+
+    // Bring Up: the target's variable of the first level that differs goes up one level.
+    #[tactic(auto, using(crate::proofs::Laws::bringing))]
+    fn bring_up(&self) -> Option<usize>
+        ensures { result ≡ next_level bring_up (from self.now) (to self.now) }
+    {
+        let level = self.first_difference()?;
+        Some(self.level_of_target(level) - 1)
+    }
+
+    // Sink Down: the target's variable of the last level that differs goes down one level.
+    #[tactic(auto, using(crate::proofs::Laws::sinking))]
+    fn sink_down(&self) -> Option<usize>
+        ensures { result ≡ next_level sink_down (from self.now) (to self.now) }
+    {
+        let level = self.last_difference()?;
+        Some(self.level_of_target(level))
+    }
+
+    // Lowest Inversion: the adjacent inverted pair nearest the bottom.
+    fn lowest_inversion(&self) -> Option<usize>
+        ensures { result ≡ next_level lowest_inversion (from self.now) (to self.now) }
+    {
+        let pairs = self.n.saturating_sub(1);
+        (0..pairs).rev().find(|&level| self.inverted_at(level))
+    }
+
+    // Highest Inversion: the adjacent inverted pair nearest the top.
+    fn highest_inversion(&self) -> Option<usize>
+        ensures { result ≡ next_level highest_inversion (from self.now) (to self.now) }
+    {
+        let pairs = self.n.saturating_sub(1);
+        (0..pairs).find(|&level| self.inverted_at(level))
+    }
+
+    // ---- where the two differ
+
+    #[tactic(auto, using(crate::proofs::Laws::differs_returns))]
+    fn differs_at(&self, level: usize) -> bool
+        requires { level < self.now.n }
+        ensures { result ≡ differs_at (from self.now) (to self.now) level }
+    {
+        self.order.variables[level] != self.target.variables[level]
+    }
+
+    // The first level, from the top, where order and target differ.
+    fn first_difference(&self) -> Option<usize>
+        ensures { result ≡ found (differs_at (from self.now) (to self.now)) self.now.n }
+    {
+        (0..self.n).find(|&level| self.differs_at(level))
+    }
+
+    // The last level, nearest the bottom, where order and target differ.
+    fn last_difference(&self) -> Option<usize>
+        ensures { result ≡ found_last (differs_at (from self.now) (to self.now)) self.now.n }
+    {
+        (0..self.n).rev().find(|&level| self.differs_at(level))
+    }
+
+    // Where the order has the target's variable of this level.
+    #[tactic(auto, using(crate::proofs::Laws::level_returns))]
+    fn level_of_target(&self, level: usize) -> usize
+        requires { level < self.now.n }
+        ensures { result ≡ level_of (from self.now) (get_or (to self.now) level 0) }
+    {
+        self.order.level_of(self.n, self.target.variable_at(level))
+    }
+
+    // ---- the inversions left
+
+    // Does the relative order of u and v differ between order and target?
+    #[tactic(auto, unfolding(crate::specs::Inversions::inverted))]
+    fn inverted(&self, u: Variable, v: Variable) -> bool
+        ensures { result ≡ inverted (from self.now) (to self.now) u.0 v.0 }
+    {
+        let (order, target, n) = (&self.order, &self.target, self.n);
+        (above(order, n, u, v) & above(target, n, v, u))
+            | (above(order, n, v, u) & above(target, n, u, v))
+    }
+
+    // With how many of the variables before it v is inverted.
+    #[tactic(auto, unfolding(lists::specs::Count::count))]
+    fn inverted_before(&self, v: Variable) -> usize
+        ensures { (result ≡ count (λ u. inverted (from self.now) (to self.now) u v.0) v.0) × (result ≤ v.0) }
+    {
+        let mut inversions = 0;
+        for u in 0..v.0 {
+            inversions += usize::from(self.inverted(Variable(u), v));
+        }
+        inversions
+    }
+
+    // How many inversions there are, each pair counted once.
+    #[tactic(auto, using(crate::proofs::Laws::left_returns), unfolding(lists::specs::Total::total))]
+    pub fn left(&self) -> usize
+        ensures { (result ≡ left (from self.now) (to self.now)) × (result ≤ ceiling * ceiling) }
+    {
+        let mut sum = 0;
+        for v in 0..self.n {
+            sum += self.inverted_before(Variable(v));
+        }
+        sum
+    }
+
+    // Do this level and the one below it hold an inverted pair?
+    #[tactic(auto, using(crate::proofs::Laws::inverted_at_returns))]
+    fn inverted_at(&self, level: usize) -> bool
+        requires { level + 1 < self.now.n }
+        ensures { result ≡ inverted_at (from self.now) (to self.now) level }
+    {
+        let upper = self.order.variable_at(level);
+        let lower = self.order.variable_at(level + 1);
+        self.inverted(upper, lower)
     }
 }
