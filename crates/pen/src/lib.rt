@@ -16,6 +16,13 @@ pub const SEAL_MARK: u8 = 165;
 // Fuel for more stores than a swap or a recovery makes.
 pub const ENOUGH: usize = 24 * MOST_LOG_RECORDS;
 
+// What an entry of the log is of; as a number, its byte 1.
+#[derive(Clone, Copy, PartialEq, Eq)]
+pub enum Kind {
+    Record,
+    Pair,
+}
+
 // Its fuel is the number of stores that it may still make.
 #[derive(Drop)]
 pub struct Pen {
