@@ -1,16 +1,21 @@
 -- The laws of the steps of the writing part.
-use Prim.Native.Nat.{ℕ, suc, ◌+◌, ◌-◌, ◌*◌, ◌≤◌, ◌<◌}
-use mathlib.Core.Bool.{Bool, true, false, cond}
+use Prim.Native.Nat.{ℕ, zero, suc, ◌+◌, ◌-◌, ◌*◌, ◌≤◌, ◌<◌}
+use mathlib.Core.Bool.{Bool, true, false, cond, not, ◌&&◌, ◌||◌}
 use mathlib.Core.List.Memᴰ
 use mathlib.Core.List.{List, [], ◌∷◌, ◌++◌, map, map-append, append-nil}
 use mathlib.Core.Logic.{⊎_elim}
 use mathlib.Core.Path.{◌≡◌, refl, ap, ap₂, sym, ◌∙◌}
 use native.Mathlib.Omega.{arith}
+use lib.Dec.{eqb}
+use Rattle.std.specs.List.{filter, range_with_len}
+use Rattle.std.proofs.lemmas.List.{map-id}
+use Rattle.std.proofs.lemmas.List.FromFn.{filter_of_map_range_with_len_more}
 use lib.ListN.{length, get_or, set, take, length-append, length-map, length-set}
 use lib.Seq.{get_or-set_other, get_or-set_same}
 use native.Mathlib.Numerals.{add-one}
 use borrow.Author.Rules.{rules}
-use Rattle.lists.specs.Count.{count_small, Tally, tally_ends}
+use Rattle.std.specs.Cmp.Lexicographic.{pointwise}
+use Rattle.lists.specs.Count.{count}
 use Rattle.lists.specs.Mem.{Mem}
 use Rattle.lists.specs.Which.{which, which_mem, which_length}
 use Rattle.lists.specs.Each.{each, each_append, each_mem}
@@ -24,115 +29,111 @@ use Rattle.undo.specs.Log.{changed, changes, entries_of, entries_needed, entries
 use Rattle.undo.specs.Log.{entry_stores, logging, sealing, putting, swap_stores}
 use Rattle.undo.specs.Changes.{taken}
 use Rattle.undo.specs.Sealed.{seal_pokes}
-use Rattle.commits.specs.Steps.{unlike_bytes, packed_bytes, entries_below, entry_of, LoggedOf, AllLogged, log_pokes, record_pokes, poke_of}
-use Rattle.commits.specs.declared.Logged.{Logged}
+use Rattle.commits.specs.Steps.{entries_below, LoggedOf, AllLogged, log_pokes, record_pokes}
 
-pub entry_packed : {e old : List ℕ} (t : List ℕ) (i : ℕ) → e ≡ packed_bytes 0 i old → old ≡ eight t (record_size * i) → e ≡ packed (record_entry t i)
-entry_packed {e} {old} t i p q = p ∙ ap (packed_bytes 0 i) q
+-- ---- what changes
 
-pub record_changed : {b : Bool} {x y : List ℕ} (t u : List ℕ) (i : ℕ) → b ≡ unlike_bytes x y → x ≡ eight t (record_size * i)
-    → y ≡ eight u (record_size * i) → b ≡ changed t u i
+-- eight bytes that are the same at each place, or differ at one
+not_all : (a b c d e f g h : Bool)
+    → not (a && (b && (c && (d && (e && (f && (g && (h && true))))))))
+    ≡ (not a || not b || not c || not d || not e || not f || not g || not h)
+not_all false b c d e f g h = refl
+not_all true false c d e f g h = refl
+not_all true true false d e f g h = refl
+not_all true true true false e f g h = refl
+not_all true true true true false f g h = refl
+not_all true true true true true false g h = refl
+not_all true true true true true true false h = refl
+not_all true true true true true true true false = refl
+not_all true true true true true true true true = refl
+
+pub record_changed : {b : Bool} {x y : List ℕ} (t u : List ℕ) (i : ℕ) → x ≡ eight t (record_size * i) → y ≡ eight u (record_size * i)
+    → b ≡ not (pointwise eqb x y) → b ≡ changed t u i
 unfolding changed
-record_changed t u i p q r = p ∙ ap₂ unlike_bytes q r
+record_changed t u i p q e = e ∙ ap₂ (λ (x y : List ℕ). not (pointwise eqb x y)) p q ∙ not_all _ _ _ _ _ _ _ _
 
--- the log has room for one more
-pub logged_room : {b : Bool} {x : List ℕ} (t u : List ℕ) (i n m : ℕ) → b ≡ changed t u i → b ≡ true
-    → (changed t u i ≡ true → entry_size * n + entry_size ≤ m) → x ≡ packed (record_entry t i) → entry_size * n + length x ≤ m
-logged_room t u i n m e h f p = omega (arith, f (sym e ∙ h), ap length p)
+-- std's filter over the numbers below n
+filtered : (p : ℕ → Bool) (n : ℕ) → filter p (map (λ k. k) (range_with_len 0 n)) ≡ which p n
+unfolding which
+filtered p zero = refl
+filtered p (suc n) =
+    ap (λ m. filter p (map (λ k. k) (range_with_len 0 m))) (sym (add-one n))
+    ∙ filter_of_map_range_with_len_more p (λ k. k) 0 n n (omega arith)
+    ∙ ap (λ (l : List ℕ). l ++ cond (p n) (n ∷ []) []) (filtered p n)
 
-pub logged_one : {b : Bool} {x l l' : List ℕ} {f r : ℕ} (t u : List ℕ) (i n : ℕ) → b ≡ changed t u i → b ≡ true
-    → x ≡ packed (record_entry t i) → Wrote f (run (entry_size * n) x) l l' r → LoggedOf (entry_of t u i) n f l l' (record { entries = n + 1; fuel = r })
-unfolding each
-logged_one {b} {x} {l} {l'} {f} {r} t u i n e h p w =
-    let z : changed t u i ≡ true = sym e ∙ h in
-    rw z (record { wrote = wrote_as w (ap (run (entry_size * n)) (p ∙ sym (append-nil (packed (record_entry t i))))); entries = refl })
-
-pub logged_none : {b : Bool} {l : List ℕ} {f : ℕ} (t u : List ℕ) (i n : ℕ) → b ≡ changed t u i → b ≡ false
-    → LoggedOf (entry_of t u i) n f l l (record { entries = n; fuel = f })
-unfolding each run
-logged_none {b} {l} {f} t u i n e h =
-    let z : changed t u i ≡ false = sym e ∙ h in
-    rw z (record { wrote = wrote_none; entries = omega arith })
-
-pub ruleset logged = (logged_room, logged_one, logged_none, rules)
+pub needed_is : (t u : List ℕ) {m n : ℕ} → n ≡ length (filter (changed t u) (range_with_len 0 m)) → m ≡ records t → n + 1 ≡ entries_needed t u
+unfolding entries_needed
+needed_is t u {m} {n} e h =
+    ap (λ k. k + 1)
+    (e ∙ ap (λ (l : List ℕ). length (filter (changed t u) l)) (sym (map-id (range_with_len 0 m)))
+    ∙ ap length (filtered (changed t u) m)
+    ∙ ap (λ k. length (which (changed t u) k)) h)
 
 -- ---- the entries one after the other
 
-below_more : (t u : List ℕ) (i : ℕ) → entries_below t u (i + 1) ≡ entries_below t u i ++ entry_of t u i
+below_more : (t u : List ℕ) (i : ℕ) → entries_below t u (i + 1) ≡ entries_below t u i ++ map (record_entry t) (cond (changed t u i) (i ∷ []) [])
 unfolding which
-below_more t u i =
-    ap (entries_below t u) (add-one i)
-    ∙ map-append (record_entry t) (which (changed t u) i) (cond (changed t u i) (i ∷ []) [])
-    ∙ ap (λ (l : List Entry). entries_below t u i ++ l) (one (changed t u i))
-  where
-    one : (b : Bool) → map (record_entry t) (cond b (i ∷ []) []) ≡ cond b (record_entry t i ∷ []) []
-    one true = refl
-    one false = refl
+below_more t u i = ap (entries_below t u) (add-one i) ∙ map-append (record_entry t) (which (changed t u) i) (cond (changed t u i) (i ∷ []) [])
 
-packed_long : (t : List ℕ) (l : List ℕ) → length (each packed (map (record_entry t) l)) ≡ entry_size * length l
+below_count : (t u : List ℕ) (i : ℕ) → length (entries_below t u i) ≡ count (changed t u) i
+below_count t u i = length-map (which (changed t u) i) (record_entry t) ∙ which_length (changed t u) i
+
+packed_long : (t : List ℕ) (l : List ℕ) → length (each packed (map (record_entry t) l)) ≡ entry_size * length (map (record_entry t) l)
 unfolding each
 packed_long t [] = refl
 packed_long t (i ∷ l) = omega (arith, packed_long t l)
 
--- these after those
-pub logged_more : {es fs : List Entry} {n f : ℕ} {l m l' : List ℕ} {a b : Logged} → length (each packed es) ≡ entry_size * length es
-    → LoggedOf es n f l m a → LoggedOf fs a.entries a.fuel m l' b → LoggedOf (es ++ fs) n f l l' b
-logged_more {es} {fs} {n} {f} {l} {m} {l'} {a} {b} long p q =
-    record {
-      wrote = wrote_as (wrote_more p.wrote q.wrote) (sym both);
-      entries = omega (arith, q.entries, p.entries, length-append es fs);
-    }
+-- one entry more
+logged_more : {es : List Entry} {f n r r' : ℕ} {x l m l' : List ℕ} (e : Entry) → length (each packed es) ≡ entry_size * length es
+    → LoggedOf es f l m n r → x ≡ packed e → Wrote r (run (entry_size * n) x) m l' r' → LoggedOf (es ++ (e ∷ [])) f l l' (n + 1) r'
+unfolding each
+logged_more {es} {n = n} {x = x} e long p q w =
+    record { wrote = wrote_as (wrote_more p.wrote w) (sym both); entries = omega (arith, p.entries, length-append es (e ∷ [])) }
   where
-    place : (k : ℕ) → k ≡ n + length es → entry_size * n + length (each packed es) ≡ entry_size * k
-    place k e = omega (arith, long)
+    place : length (each packed es) ≡ entry_size * n
+    place = omega (arith, long, p.entries)
 
-    both : run (entry_size * n) (each packed (es ++ fs)) ≡ run (entry_size * n) (each packed es) ++ run (entry_size * a.entries) (each packed fs)
+    both : run 0 (each packed (es ++ (e ∷ []))) ≡ run 0 (each packed es) ++ run (entry_size * n) x
     both =
-        ap (run (entry_size * n)) (each_append packed es fs)
-        ∙ run_append (entry_size * n) (each packed es) (each packed fs)
-        ∙ ap (λ k. run (entry_size * n) (each packed es) ++ run k (each packed fs)) (place a.entries p.entries)
+        ap (run 0) (each_append packed es (e ∷ []))
+        ∙ run_append 0 (each packed es) (packed e ++ [])
+        ∙ ap₂ (λ (k : ℕ) (y : List ℕ). run 0 (each packed es) ++ run k y) (omega (arith, place)) (append-nil (packed e) ∙ sym q)
 
-pub record Logs (t u : List ℕ) (f i : ℕ) (l l' : List ℕ) (a : Logged) : Type 0 where
-  pub within : i ≤ records t
-  pub long : length l' ≡ length l
-  pub logged : LoggedOf (entries_below t u i) 0 f l l' a
+module _ {f : ℕ} {l : List ℕ} (t u : List ℕ) where
+  pub logs_begin : LoggedOf (entries_below t u 0) f l l 0 f
+  unfolding which each run
+  logs_begin = record { wrote = wrote_none; entries = refl }
 
-pub logs_begin : {t u l : List ℕ} {f : ℕ} → Logs t u f 0 l l (record { entries = 0; fuel = f })
-unfolding which each run
-logs_begin = record { within = omega arith; long = refl; logged = record { wrote = wrote_none; entries = omega arith } }
+  module _ (i : ℕ) {b : Bool} {n r : ℕ} {m : List ℕ} (w : LoggedOf (entries_below t u i) f l m n r) (e : b ≡ changed t u i) where
+    pub logs_go : {x l' : List ℕ} {r' : ℕ} → b ≡ true → x ≡ packed (record_entry t i) → Wrote r (run (entry_size * n) x) m l' r'
+        → LoggedOf (entries_below t u (i + 1)) f l l' (n + 1) r'
+    logs_go h p v = let c : changed t u i ≡ true = sym e ∙ h in rw (below_more t u i, c) (logged_more _ (packed_long t (which (changed t u) i)) w p v)
 
-pub logs_go : {t u l m l' : List ℕ} {f i : ℕ} {a b : Logged} → Logs t u f i l m a → i < records t
-    → LoggedOf (entry_of t u i) a.entries a.fuel m l' b → Logs t u f (i + 1) l l' b
-logs_go {t} {u} {l} {m} {l'} {f} {i} {a} {b} w h s =
-    let long = packed_long t (which (changed t u) i) ∙ ap (λ n. entry_size * n) (sym (length-map (which (changed t u) i) (record_entry t))) in
-    record {
-      within = omega arith;
-      long = wrote_long s.wrote ∙ w.long;
-      logged = rw (below_more t u i) (logged_more long w.logged s);
-    }
+    pub logs_rest : b ≡ false → LoggedOf (entries_below t u (i + 1)) f l m n r
+    logs_rest h = let c : changed t u i ≡ false = sym e ∙ h in rw (below_more t u i, c) (rw append-nil w)
 
-pub logs_end : {t u l l' : List ℕ} {f i : ℕ} {a : Logged} → Logs t u f i l l' a → records t ≤ i → AllLogged t u f l l' a
-unfolding entries_needed
-logs_end {t} {u} {l} {l'} {f} {i} {a} w h =
-    let q : i ≡ records t = omega (arith, w.within) in
-    let all : LoggedOf (entries_below t u (records t)) 0 f l l' a = rw q at w.logged in
-    record { logged = all; needed = omega (arith, all.entries, length-map (changes t u) (record_entry t)); long = w.long }
+    -- the log has room for one more
+    pub logs_room : b ≡ true → i < records t → entries_needed t u ≤ entries_held l → length m ≡ length l → entry_size * n + entry_size ≤ length m
+    unfolding entries_needed
+    logs_room h less room long =
+        let c : changed t u i ≡ true = sym e ∙ h in
+        omega (
+          arith,
+          room,
+          long,
+          w.entries,
+          below_count t u i,
+          which_length (changed t u) (records t),
+          count_before (changed t u) (records t) i less c,
+        )
 
-pub logs_room : {t u l l' : List ℕ} {f i : ℕ} {a : Logged} → Logs t u f i l l' a → i < records t → entries_needed t u ≤ entries_held l
-    → changed t u i ≡ true → entry_size * a.entries + entry_size ≤ length l'
-unfolding entries_needed
-logs_room {t} {u} {l} {l'} {f} {i} {a} w h room c =
-    let so_far = length-map (which (changed t u) i) (record_entry t) in
-    let counts = which_length (changed t u) i in
-    let total = which_length (changed t u) (records t) in
-    omega (arith, room, w.long, w.logged.entries, so_far, counts, total, count_before (changed t u) (records t) i (omega arith) c)
+  pub logs_end : {i n r : ℕ} {l' : List ℕ} → LoggedOf (entries_below t u i) f l l' n r → i ≡ records t → AllLogged t u f l l' n r
+  unfolding entries_needed
+  logs_end {i} {n} {r} {l'} w e =
+      let all : LoggedOf (entries_below t u (records t)) f l l' n r = rw e at w in
+      record { logged = all; needed = omega (arith, all.entries, length-map (changes t u) (record_entry t)) }
 
-pub logs_few : {t u l l' : List ℕ} {f i : ℕ} {a : Logged} → Logs t u f i l l' a → i < records t → length t ≤ record_size * 65536 → a.entries < 65536
-logs_few {t} {u} {l} {l'} {f} {i} {a} w h few =
-    let so_far = length-map (which (changed t u) i) (record_entry t) in
-    omega (arith, w.logged.entries, so_far, which_length (changed t u) i, count_small (changed t u) i)
-
-pub ruleset logs = (logs_begin, logs_go, logs_end, logs_room, logs_few, rules)
+pub ruleset logs = (logs_begin, logs_go, logs_rest, logs_room, logs_end, rules)
 
 -- ---- the seal, and the whole log
 
@@ -140,38 +141,18 @@ pub seal_made : {x l m l' : List ℕ} {f r r' : ℕ} (n : ℕ) → x ≡ seal_by
     → Wrote r (poke (seal_at l) seal_mark ∷ []) m l' r' → Wrote f (seal_pokes l n) l l' r'
 seal_made {x} {l} n e w v = wrote_more (wrote_as w (ap (run (seal_at l + 1)) e)) v
 
-pub log_made : {x l m n l' : List ℕ} {f r r' : ℕ} {a : Logged} (t u o : List ℕ) (k : ℕ) → AllLogged t u f l m a → x ≡ packed (pair_entry o k)
-    → Wrote a.fuel (run (entry_size * a.entries) x) m n r → Wrote r (seal_pokes n (a.entries + 1)) n l' r' → Wrote f (log_pokes t u o l k) l l' r'
-unfolding entries_of each
-log_made {x} {l} {m} {n} {l'} {f} {r} {r'} {a} t u o k p e w v = wrote_more both.wrote (wrote_as v same_seal)
+pub log_made : {x l m m' l' : List ℕ} {f n r r' r'' : ℕ} (t u o : List ℕ) (k : ℕ) → AllLogged t u f l m n r → x ≡ packed (pair_entry o k)
+    → Wrote r (run (entry_size * n) x) m m' r' → Wrote r' (seal_pokes m' (n + 1)) m' l' r'' → Wrote f (log_pokes t u o l k) l l' r''
+unfolding entries_of
+log_made {l = l} {m' = m'} {l' = l'} {f = f} {n = n} {r' = r'} t u o k p e w v = wrote_more all.wrote (wrote_as v same_seal)
   where
-    pair : LoggedOf (pair_entry o k ∷ []) a.entries a.fuel m n (record { entries = a.entries + 1; fuel = r })
-    pair = record { wrote = wrote_as w (ap (run (entry_size * a.entries)) (e ∙ sym (append-nil (packed (pair_entry o k))))); entries = refl }
+    all : LoggedOf (entries_below t u (records t) ++ (pair_entry o k ∷ [])) f l m' (n + 1) r'
+    all = logged_more (pair_entry o k) (packed_long t (changes t u)) p.logged e w
 
-    long : length (each packed (entries_below t u (records t))) ≡ entry_size * length (entries_below t u (records t))
-    long = packed_long t (changes t u) ∙ ap (λ n. entry_size * n) (sym (length-map (changes t u) (record_entry t)))
-
-    both : LoggedOf (entries_below t u (records t) ++ (pair_entry o k ∷ [])) 0 f l n (record { entries = a.entries + 1; fuel = r })
-    both = logged_more long p.logged pair
-
-    same_seal : seal_pokes n (a.entries + 1) ≡ seal_pokes l (entries_needed t u)
+    same_seal : seal_pokes m' (n + 1) ≡ seal_pokes l (entries_needed t u)
     same_seal =
-        ap₂ (λ (i j : ℕ). run (i - entry_size + 1) (seal_bytes j) ++ (poke (i - entry_size) seal_mark ∷ [])) (wrote_long w ∙ p.long) p.needed
-
--- what is written keeps its length
-pub still_long : {l l' : List ℕ} {f r n : ℕ} {ps : List Poke} → Wrote f ps l l' r → n ≤ length l → n ≤ length l'
-still_long {l} {l'} w h = rw (wrote_long w) h
-
-pub ruleset sealing_off = (log_made, still_long, rules)
-
--- ---- the new bytes of a record
-
-pub put_one : {b : Bool} {x l l' : List ℕ} {f r : ℕ} (t u : List ℕ) (i : ℕ) → b ≡ changed t u i → b ≡ true
-    → x ≡ eight u (record_size * i) → Wrote f (run (record_size * i) x) l l' r → Wrote f (poke_of t u i) l l' r
-put_one t u i e h p w = let z : changed t u i ≡ true = sym e ∙ h in rw z (wrote_as w (ap (run (record_size * i)) p))
-
-pub put_none : {b : Bool} {l : List ℕ} {f : ℕ} (t u : List ℕ) (i : ℕ) → b ≡ changed t u i → b ≡ false → Wrote f (poke_of t u i) l l f
-put_none t u i e h = let z : changed t u i ≡ false = sym e ∙ h in rw z wrote_none
+        ap₂ (λ (i j : ℕ). run (i - entry_size + 1) (seal_bytes j) ++ (poke (i - entry_size) seal_mark ∷ []))
+        (wrote_long w ∙ wrote_long p.logged.wrote) p.needed
 
 -- ---- one record after the other: those from i on are still as they were
 
@@ -208,42 +189,45 @@ changed_same t m u i h =
       h (record_size * i + 7) (omega arith),
     )
 
-each_cond : (u : List ℕ) (i : ℕ) (b : Bool) → each (record_pokes u) (cond b (i ∷ []) []) ≡ cond b (record_pokes u i) []
-unfolding each
-each_cond u i true = append-nil (record_pokes u i)
-each_cond u i false = refl
+module _ {f : ℕ} (t u : List ℕ) where
+  pub puts_begin : Wrote f (each (record_pokes u) (which (changed t u) 0)) t t f
+  unfolding which each
+  puts_begin = wrote_none
 
-pub record Puts (t u : List ℕ) (f i : ℕ) (t' : List ℕ) (r : ℕ) : Type 0 where
-  pub within : i ≤ records t
-  pub long : length t' ≡ length t
-  pub wrote : Wrote f (each (record_pokes u) (which (changed t u) i)) t t' r
-
-pub puts_begin : {t u : List ℕ} {f : ℕ} → Puts t u f 0 t f
-unfolding which each
-puts_begin = record { within = omega arith; long = refl; wrote = wrote_none }
-
-pub puts_go : {t u m t' : List ℕ} {f i r r' : ℕ} → Puts t u f i m r → i < records t → Wrote r (poke_of m u i) m t' r' → Puts t u f (i + 1) t' r'
-unfolding which
-puts_go {t} {u} {m} {t'} {f} {i} {r} {r'} w h s =
-    record { within = omega arith; long = wrote_long s ∙ w.long; wrote = wrote_as (wrote_more w.wrote s) (sym next) }
-  where
+  module _ (i : ℕ) {b : Bool} {r : ℕ} {m : List ℕ} (w : Wrote f (each (record_pokes u) (which (changed t u) i)) t m r) (e : b ≡ changed m u i) where
+    -- record i is still as it was
     still : (j : ℕ) → record_size * i ≤ j → get_or m j 0 ≡ get_or t j 0
     still j q =
-        ap (λ (l : List ℕ). get_or l j 0) w.wrote.bytes
+        ap (λ (l : List ℕ). get_or l j 0) w.bytes
         ∙ low_pokes (take f (each (record_pokes u) (which (changed t u) i))) t (record_size * i) j
         (λ k v e. records_low (changed t u) u i k v (taken f (each (record_pokes u) (which (changed t u) i)) (poke k v) e)) q
 
-    next : each (record_pokes u) (which (changed t u) (i + 1)) ≡ each (record_pokes u) (which (changed t u) i) ++ poke_of m u i
-    next =
+    same : b ≡ changed t u i
+    same = e ∙ changed_same t m u i still
+
+    more : each (record_pokes u) (which (changed t u) (i + 1))
+        ≡ each (record_pokes u) (which (changed t u) i) ++ each (record_pokes u) (cond (changed t u i) (i ∷ []) [])
+    unfolding which
+    more =
         ap (λ n. each (record_pokes u) (which (changed t u) n)) (add-one i)
         ∙ each_append (record_pokes u) (which (changed t u) i) (cond (changed t u i) (i ∷ []) [])
-        ∙ ap (λ (x : List Poke). each (record_pokes u) (which (changed t u) i) ++ x)
-        (each_cond u i (changed t u i) ∙ ap (λ b. cond b (record_pokes u i) []) (sym (changed_same t m u i still)))
 
-pub puts_end : {t u t' : List ℕ} {f i r : ℕ} → Puts t u f i t' r → records t ≤ i → Wrote f (each (record_pokes u) (changes t u)) t t' r
-puts_end {t} {u} {t'} {f} {i} {r} w h = let q : i ≡ records t = omega (arith, w.within) in rw q at w.wrote
+    pub puts_go : {x t' : List ℕ} {r' : ℕ} → b ≡ true → x ≡ eight u (record_size * i) → Wrote r (run (record_size * i) x) m t' r'
+        → Wrote f (each (record_pokes u) (which (changed t u) (i + 1))) t t' r'
+    unfolding each
+    puts_go h p v =
+        let c : changed t u i ≡ true = sym same ∙ h in
+        rw (more, c) (wrote_more w (wrote_as v (ap (run (record_size * i)) p ∙ sym (append-nil (record_pokes u i)))))
 
-pub ruleset puts = (puts_begin, puts_go, puts_end, rules)
+    pub puts_rest : b ≡ false → Wrote f (each (record_pokes u) (which (changed t u) (i + 1))) t m r
+    unfolding each
+    puts_rest h = let c : changed t u i ≡ false = sym same ∙ h in rw (more, c) (rw append-nil w)
+
+  pub puts_end : {i r : ℕ} {t' : List ℕ} → Wrote f (each (record_pokes u) (which (changed t u) i)) t t' r → i ≡ records t
+      → Wrote f (each (record_pokes u) (changes t u)) t t' r
+  puts_end {i} {r} {t'} w e = rw e at w
+
+pub ruleset puts = (puts_begin, puts_go, puts_rest, puts_end, rules)
 
 -- ---- the whole
 
@@ -290,7 +274,3 @@ commit_made {t} {t'} {o} {o'} {l} {m} {l'} {f} {r1} {r2} {r3} {r4} u k a b c d h
     (spent_more
     (spent_as (spent_more (spent_in in_table (state t o m) b) (spent_in in_order (state t' o m) c)) (new_stores u o k (changes t u) h))
     (spent_as (spent_in in_log (state t' o' m) d) (ap (λ n. store in_log (n - entry_size) 0 ∷ []) (wrote_long a))))
-
-pub needed_is : (t u : List ℕ) {m i n : ℕ} → Tally (changed t u) m i n → m ≤ i → m ≡ records t → n + 1 ≡ entries_needed t u
-unfolding entries_needed
-needed_is t u w h e = omega (arith, tally_ends w h e, which_length (changed t u) (records t))

@@ -1,13 +1,14 @@
 -- What the steps of the writing part ask for, and what they store.
-use Rattle.std.specs.Prelude.{ℕ, ◌+◌, ◌*◌, ◌/◌, ◌%◌, ◌≤◌, ◌<◌, Bool, cond, ◌||◌, List, [], ◌∷◌, ◌++◌, map, ◌≡◌, length, get_or}
+use Rattle.std.specs.Prelude.{ℕ, ◌+◌, ◌*◌, ◌≤◌, ◌<◌, List, ◌++◌, map, ◌≡◌, length}
 use Rattle.lists.specs.Each.{each}
 use Rattle.lists.specs.Which.{which}
 use Rattle.diagrams.specs.Layout.{record_size, records}
 use Rattle.undo.specs.Stores.{state, Poke, run}
 use Rattle.undo.specs.Wrote.{Wrote, Spent}
-use Rattle.undo.specs.Log.{entry_size, Entry, eight, packed, unlike, changed, changes, record_entry, entries_of, entries_needed, entries_held, swap_stores}
+use Rattle.undo.specs.Log.{entry_size, of_record, of_pair, Entry, eight, packed, changed, changes, record_entry, entries_of, entries_needed, entries_held, swap_stores}
 use Rattle.undo.specs.Sealed.{seal_pokes}
-use Rattle.commits.specs.declared.Logged.{Logged}
+use Rattle.pen.specs.declared.Kind.{Kind}
+use Rattle.pen.specs.declared.Kind.TheVariants.{Record, Pair}
 
 -- ---- what is asked for
 
@@ -25,38 +26,31 @@ pub record Writable (t u o log : List ℕ) (k : ℕ) : Type 0 where
   pub seal : entry_size ≤ length log
   pub few_entries : length log ≤ 65536
 
--- ---- bytes
+-- ---- an entry
 
--- eight bytes in an entry, and two times eight that differ
-abbrev pub packed_bytes : ℕ → ℕ → List ℕ → List ℕ
-packed_bytes kind number b =
-    0 ∷ kind ∷ number % 256 ∷ number / 256
-    ∷ get_or b 0 0 ∷ get_or b 1 0 ∷ get_or b 2 0 ∷ get_or b 3 0 ∷ get_or b 4 0 ∷ get_or b 5 0 ∷ get_or b 6 0 ∷ get_or b 7 0
-    ∷ 0 ∷ 0 ∷ 0 ∷ 0 ∷ []
+-- the number of a kind
+abbrev pub code : Kind → ℕ
+code Record = of_record
+code Pair = of_pair
 
-abbrev pub unlike_bytes : List ℕ → List ℕ → Bool
-unlike_bytes a b =
-    unlike a b 0 || unlike a b 1 || unlike a b 2 || unlike a b 3 || unlike a b 4 || unlike a b 5 || unlike a b 6 || unlike a b 7
+abbrev pub entry : Kind → ℕ → List ℕ → Entry
+entry kind n b = record { kind = code kind; number = n; bytes = b }
 
 -- ---- the log
 
--- the entries of the records below m that change, and that of record i
+-- the entries of the records below m that change
 abbrev pub entries_below : List ℕ → List ℕ → ℕ → List Entry
 entries_below t u m = map (record_entry t) (which (changed t u) m)
 
-abbrev pub entry_of : List ℕ → List ℕ → ℕ → List Entry
-entry_of t u i = cond (changed t u i) (record_entry t i ∷ []) []
-
--- these entries are logged from entry n on
-pub record LoggedOf (es : List Entry) (n f : ℕ) (l l' : List ℕ) (a : Logged) : Type 0 where
-  pub wrote : Wrote f (run (entry_size * n) (each packed es)) l l' a.fuel
-  pub entries : a.entries ≡ n + length es
+-- these n entries stand at the front of the log
+pub record LoggedOf (es : List Entry) (f : ℕ) (l l' : List ℕ) (n r : ℕ) : Type 0 where
+  pub wrote : Wrote f (run 0 (each packed es)) l l' r
+  pub entries : n ≡ length es
 
 -- those of all records that change
-pub record AllLogged (t u : List ℕ) (f : ℕ) (l l' : List ℕ) (a : Logged) : Type 0 where
-  pub logged : LoggedOf (entries_below t u (records t)) 0 f l l' a
-  pub needed : a.entries + 1 ≡ entries_needed t u
-  pub long : length l' ≡ length l
+pub record AllLogged (t u : List ℕ) (f : ℕ) (l l' : List ℕ) (n r : ℕ) : Type 0 where
+  pub logged : LoggedOf (entries_below t u (records t)) f l l' n r
+  pub needed : n + 1 ≡ entries_needed t u
 
 -- all entries, and the seal
 abbrev pub log_pokes : (t u o log : List ℕ) (k : ℕ) → List Poke
@@ -66,9 +60,6 @@ log_pokes t u o log k = run 0 (each packed (entries_of (changes t u) k t o)) ++ 
 
 abbrev pub record_pokes : List ℕ → ℕ → List Poke
 record_pokes u i = run (record_size * i) (eight u (record_size * i))
-
-abbrev pub poke_of : List ℕ → List ℕ → ℕ → List Poke
-poke_of t u i = cond (changed t u i) (record_pokes u i) []
 
 -- ---- the whole: a swap of levels k and k + 1 that makes the table u, cut after f stores
 abbrev pub Committed : (t o log u : List ℕ) (k f : ℕ) (t' o' log' : List ℕ) (r : ℕ) → Type 0

@@ -1,4 +1,4 @@
-// The one writer of the lent buffers: single-byte stores, as many as the fuel lasts for. "Cut after f stores" is the same code with fuel f.
+// The one writer of the lent buffers: single-byte stores, as many as its fuel lasts for. "Cut after f stores" is the same code with fuel f.
 #![tactic(auto)]
 
 ghost use Rattle.std.specs.Prelude.{◌≡◌, [], ◌∷◌, ◌+◌, ◌≤◌, ◌<◌, length};
@@ -16,30 +16,40 @@ pub const SEAL_MARK: u8 = 165;
 // Fuel for more stores than a swap or a recovery makes.
 pub const ENOUGH: usize = 24 * MOST_LOG_RECORDS;
 
-// One store, if there is fuel for it; the fuel left.
-pub fn store(buffer: &mut [u8], i: usize, byte: u8, fuel: usize) -> usize
-    requires { i < length buffer.old }
-    ensures { Wrote fuel (poke i byte ∷ []) buffer.old buffer.new result }
-{
-    if fuel == 0 {
-        return 0;
-    }
-    buffer[i] = byte;
-    fuel - 1
+// What an entry of the log is of; as a number, its byte 1.
+#[derive(Clone, Copy, PartialEq, Eq)]
+pub enum Kind {
+    Record,
+    Pair,
 }
 
-// These bytes, one after the other.
-pub fn write(buffer: &mut [u8], at: usize, bytes: &[u8], fuel: usize) -> usize
-    requires { at + length bytes.now ≤ length buffer.old }
-    ensures { Wrote fuel (run at bytes.now) buffer.old buffer.new result }
-{
-    let mut left = fuel;
-    let mut j = 0;
-    while j < bytes.len() {
-        left = store(buffer, at + j, bytes[j], left);
-        j += 1;
+// Its fuel is the number of stores that it may still make.
+#[derive(Drop)]
+pub struct Pen {
+    pub fuel: usize,
+}
+
+impl Pen {
+    // One store, if there is fuel for it.
+    pub fn store(&mut self, buffer: &mut [u8], i: usize, byte: u8)
+        requires { i < length buffer.old }
+        ensures { Wrote self.old.fuel (poke i byte ∷ []) buffer.old buffer.new self.new.fuel }
+    {
+        if self.fuel > 0 {
+            buffer[i] = byte;
+            self.fuel -= 1;
+        }
     }
-    left
+
+    // These bytes, one after the other.
+    pub fn write(&mut self, buffer: &mut [u8], at: usize, bytes: &[u8])
+        requires { at + length bytes.now ≤ length buffer.old }
+        ensures { Wrote self.old.fuel (run at bytes.now) buffer.old buffer.new self.new.fuel }
+    {
+        for (j, &byte) in bytes.iter().enumerate() {
+            self.store(buffer, at + j, byte);
+        }
+    }
 }
 
 // The eight bytes at an index.
@@ -47,14 +57,5 @@ pub fn eight(bytes: &[u8], at: usize) -> [u8; 8]
     requires { at + 8 ≤ length bytes.now }
     ensures { result ≡ log.eight bytes.now at }
 {
-    [
-        bytes[at],
-        bytes[at + 1],
-        bytes[at + 2],
-        bytes[at + 3],
-        bytes[at + 4],
-        bytes[at + 5],
-        bytes[at + 6],
-        bytes[at + 7],
-    ]
+    std::array::from_fn(|j| bytes[at + j])
 }

@@ -1,7 +1,5 @@
 -- How many stores a swap and a recovery make, so how much fuel is enough.
-use Rattle.std.specs.Prelude.{ℕ, zero, suc, ◌+◌, ◌*◌, ◌≤◌, ◌<◌, Bool, true, false, cond, List, [], ◌∷◌, ◌++◌, ◌≡◌, refl, eqb, length, take}
-use Rattle.std.proofs.Common.{append-nil, ap, ◌∙◌, arith, length-append}
-use Rattle.std.proofs.lemmas.List.{length-map}
+use Rattle.std.specs.Prelude.{ℕ, ◌*◌, Bool, cond, List, take}
 use Rattle.diagrams.specs.Layout.{record_size}
 use Rattle.undo.specs.Stores.{in_table, in_order, Store, run, into}
 use Rattle.undo.specs.Log.{most_log_records}

@@ -1,12 +1,8 @@
 -- A swap that is cut somewhere, recoveries that are cut too, and a last one that isn't: table and order are those of before the swap,
 -- or those of after it where its clearing store was made.
-use Rattle.std.specs.Prelude.{ℕ, zero, suc, ◌+◌, ◌-◌, ◌*◌, ◌≤◌, ◌<◌, false, ◌≡◌, refl, eqb, set}
-use mathlib.Core.List.{List, [], ◌∷◌, ◌++◌}
-use Rattle.std.proofs.Common.{inl, inr, ⊎_elim, sym, ◌∙◌, length-set, take_all, ext_get_or, ne_eqb}
-use Rattle.std.proofs.Math.Path.{ap, ap₂, subst}
-use native.Mathlib.Omega.{arith}
-use Rattle.std.proofs.Math.ListN.{length, get_or, take, length-append, length-map, length-take}
-use Rattle.std.proofs.Math.Seq.{take-append-le, get_or-set_same}
+use Rattle.std.specs.Prelude.{ℕ, ◌+◌, ◌*◌, ◌≤◌, ◌<◌, ◌≡◌}
+use mathlib.Core.List.{List, [], ◌∷◌}
+use Rattle.std.proofs.Math.ListN.{length, get_or}
 use Rattle.diagrams.specs.Layout.{record_size, records}
 use Rattle.undo.specs.Stores.{State}
 use Rattle.undo.specs.Log.{seal_at}
