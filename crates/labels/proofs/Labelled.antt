@@ -1,43 +1,22 @@
 -- Laws of what specs/Labelled.antt defines.
-use Rattle.std.specs.Prelude.{ℕ, ◌*◌, ◌%◌, ◌≤◌, ◌<◌, Bool, true, false, ◌||◌, List, ◌⊎◌, ◌≡◌, refl, length, get_or}
+use Rattle.std.specs.Prelude.{ℕ, ◌*◌, ◌%◌, ◌≤◌, ◌<◌, Bool, true, false, cond, ◌||◌, List, ◌⊎◌, ◌≡◌, refl, length, get_or}
+use Rattle.std.specs.Prelude.{Option, Some, None}
 use Rattle.std.proofs.Common.{inl, inr, ⊎_elim, ap, sym, ◌∙◌, arith}
-use borrow.Author.Tests.{lt-ltb, le-ltb}
-use Rattle.lists.specs.First.{first_passed, first_holds}
+use Rattle.std.specs.Option.{option_map}
+use Rattle.lists.specs.Found.{some_found, none_found}
 use Rattle.lists.specs.Says.{Says, says, says_eqb, says_leb, refutes, stable, either_side}
-use Rattle.lists.specs.Truth.{by, or_cases, or_neither}
 use Rattle.parts.specs.Part.{Inside}
 use Rattle.parts.specs.Lent.{nothing_inside}
 use Rattle.parts.specs.declared.Part.{Part}
 use Rattle.labels.specs.declared.Place.{Place}
 use Rattle.labels.specs.declared.Place.TheVariants.{Nowhere, Site, Factory}
-use Rattle.labels.specs.Label.{label_size, most_labels, bad_length, label_count, InLabels, names, text_part, first_for, label_of}
+use Rattle.labels.specs.Label.{label_size, most_labels, bad_length, label_count, InLabels, names, text_part, first_for, place_of, label_of}
 use Rattle.labels.specs.Label.{chosen, part_in}
 use Rattle.labels.specs.Labelled.{FirstFor, FromFactory, FromSite, Means, RightLength, Unlabelled, Unnamed, site_wrong, factory_wrong, neither}
 
--- ---- the ways to a label: a law for each, whose premises are what code knows there
-
-module _ (s f : List ℕ) (v : ℕ) {a b : Bool} (site-bad : a ≡ bad_length s) (factory-bad : b ≡ bad_length f) where
-  pub wrong_label : (a || b) ≡ true → Nowhere ≡ label_of s f v
-  unfolding label_of
-  wrong_label h = rw (← site-bad, ← factory-bad, h)
-
-  module _ (right : (a || b) ≡ false) {i m : ℕ} (found : i ≡ first_for s v) (counted : m ≡ label_count s) where
-    pub site_label : {p : Part} → p ≡ text_part i → i < m → Site p ≡ label_of s f v
-    unfolding label_of
-    site_label e l = rw (e, ← site-bad, ← factory-bad, right, ← found, ← counted, lt-ltb i m l)
-
-    module _ {j k : ℕ} (found' : j ≡ first_for f v) (counted' : k ≡ label_count f) (none : m ≤ i) where
-      pub factory_label : {p : Part} → p ≡ text_part j → j < k → Factory p ≡ label_of s f v
-      unfolding label_of
-      factory_label e l = rw (e, ← site-bad, ← factory-bad, right, ← found, ← counted, le-ltb i m none, ← found', ← counted', lt-ltb j k l)
-
-      pub no_label : k ≤ j → Nowhere ≡ label_of s f v
-      unfolding label_of
-      no_label l = rw (← site-bad, ← factory-bad, right, ← found, ← counted, le-ltb i m none, ← found', ← counted', le-ltb j k l)
-
 -- a record that is found lies in its list
-pub found_inside : (l : List ℕ) {i m : ℕ} → m ≡ label_count l → i < m → InLabels l i
-found_inside l e h = omega arith
+pub found_inside : (l : List ℕ) (v : ℕ) {i : ℕ} → Some i ≡ first_for l v → InLabels l i
+found_inside l v h = omega (arith, (some_found (sym h)).0)
 
 -- ---- what the tests say
 
@@ -60,14 +39,16 @@ names_says : (l : List ℕ) (v i : ℕ) → Says (names l v i) (get_or l (label_
 unfolding names
 names_says l v i = says_eqb _ _
 
-first_for_lem : (l : List ℕ) (v : ℕ) → first_for l v < label_count l → FirstFor l v (first_for l v)
-first_for_lem l v h = record {
-  itself = record { inside = h; is = (names_says l v _).yes (first_holds (names l v) (label_count l) h) };
-  before = λ j k r. refutes (names_says l v j) ((first_passed (names l v) (label_count l)).at j k) r.is;
-}
+first_for_lem : (l : List ℕ) (v : ℕ) {i : ℕ} → first_for l v ≡ Some i → FirstFor l v i
+first_for_lem l v {i} h =
+    let (inside, holds, passed, same) = some_found h in
+    record {
+      itself = record { inside = inside; is = (names_says l v i).yes holds };
+      before = λ j k r. refutes (names_says l v j) (passed.at j k) r.is;
+    }
 
-none_for : (l : List ℕ) (v : ℕ) → label_count l ≤ first_for l v → Unnamed l v
-none_for l v h i r = refutes (names_says l v i) ((first_passed (names l v) (label_count l)).at i (omega (arith, r.inside))) r.is
+none_for : (l : List ℕ) (v : ℕ) → first_for l v ≡ None → Unnamed l v
+none_for l v h i r = refutes (names_says l v i) ((none_found h).at i r.inside) r.is
 
 pub text_inside : (l : List ℕ) {i : ℕ} → i < label_count l → Inside (text_part i) l
 text_inside l h = record { begins = omega arith; ends = omega arith }
@@ -78,29 +59,18 @@ first_one {i = i} {j = j} p q =
     either_side i j (λ h. absurd (q.before i h p.itself)) (λ h. either_side j i (λ k. absurd (p.before j k q.itself)) (λ k. omega arith))
 
 module _ (s f : List ℕ) (v : ℕ) where
-  told : {p : Place} → p ≡ label_of s f v → Means s f v p → Means s f v (label_of s f v)
-  told e m = rw (← e) m
-
   pub means : Means s f v (label_of s f v)
-  means = ⊎_elim wrong right (by (bad_length s || bad_length f))
+  unfolding label_of
+  means = go (bad_length s) (bad_length f) (first_for s v) (first_for f v) refl refl refl refl
     where
-      wrong : (bad_length s || bad_length f) ≡ true → Means s f v (label_of s f v)
-      wrong e =
-          told (wrong_label s f v refl refl e)
-          (⊎_elim (λ h. site_wrong (wrong_length s h)) (λ h. factory_wrong (wrong_length f h)) (or_cases (bad_length s) (bad_length f) e))
-
-      right : (bad_length s || bad_length f) ≡ false → Means s f v (label_of s f v)
-      right e =
-          let (p, q) = or_neither (bad_length s) (bad_length f) e in
-          let lengths : RightLength s × RightLength f = (right_length s p, right_length f q) in
-          either_side (first_for s v) (label_count s)
-          (λ h. told (site_label s f v refl refl e refl refl refl h) (first_for s v, (record { right = lengths; first = first_for_lem s v h }, refl)))
-          (λ h.
-          either_side (first_for f v) (label_count f)
-          (λ k.
-          told (factory_label s f v refl refl e refl refl refl refl h refl k)
-          (first_for f v, (record { right = lengths; unnamed = none_for s v h; first = first_for_lem f v k }, refl)))
-          (λ k. told (no_label s f v refl refl e refl refl refl refl h k) (neither (none_for s v h) (none_for f v k))))
+      go : (a b : Bool) (i j : Option ℕ) → bad_length s ≡ a → bad_length f ≡ b → first_for s v ≡ i → first_for f v ≡ j
+          → Means s f v (cond (a || b) Nowhere (place_of (option_map text_part i) (option_map text_part j)))
+      go true b i j p q d e = site_wrong (wrong_length s p)
+      go false true i j p q d e = factory_wrong (wrong_length f q)
+      go false false (Some i) j p q d e = (i, (record { right = (right_length s p, right_length f q); first = first_for_lem s v d }, refl))
+      go false false None (Some j) p q d e =
+          (j, (record { right = (right_length s p, right_length f q); unnamed = none_for s v d; first = first_for_lem f v e }, refl))
+      go false false None None p q d e = neither (none_for s v d) (none_for f v e)
 
   -- ---- no two places mean what holds
 

@@ -8,10 +8,7 @@ use Rattle.parts.specs.declared.Part.{Part}
 use Rattle.labels.specs.declared.Place.{Place}
 use Rattle.labels.specs.declared.Place.TheVariants.{Site, Factory}
 use Rattle.labels.specs.Label.{label_of, chosen, part_in, LabelOutcome}
-use Rattle.labels.proofs.Labelled.{wrong_label, site_label, factory_label, no_label, found_inside, place_inside}
-
--- `search placing` answers what hangs on the place of a label
-pub ruleset placing = (wrong_label, site_label, factory_label, no_label, found_inside, rules)
+use Rattle.labels.proofs.Labelled.{place_inside}
 
 -- ---- a place that was taken apart
 

@@ -2,7 +2,10 @@
 -- one, or where the length of either list is wrong.
 -- docs/RULES.md, 1.6 and 3.
 use Rattle.std.specs.Prelude.{ℕ, ◌+◌, ◌*◌, ◌/◌, ◌%◌, ◌≤◌, Bool, cond, not, ◌||◌, List, [], ◌∷◌, ◌++◌, ◌≡◌, refl, eqb, ltb, length, get_or, replicate}
+use Rattle.std.specs.Prelude.{Option, Some, None}
+use Rattle.std.specs.Option.{option_map}
 use Rattle.lists.specs.First.{first}
+use Rattle.lists.specs.Found.{found}
 use Rattle.parts.specs.Part.{part_from, no_part, bytes_in, Handed}
 use Rattle.parts.specs.Part as part
 use Rattle.parts.specs.declared.Part.{Part}
@@ -41,23 +44,25 @@ names l v i = eqb (get_or l (label_size * i) 0) v
 abbrev pub text_part : ℕ → Part
 text_part i = part_from (label_size * i + 1) text_size
 
--- the first record for the variable; the number of records where there is none
-abbrev pub first_for : List ℕ → ℕ → ℕ
-first_for l v = first (names l v) (label_count l)
+-- the first record for the variable, if there is one
+abbrev pub first_for : List ℕ → ℕ → Option ℕ
+first_for l v = found (names l v) (label_count l)
 
--- there is one
-abbrev pub named : List ℕ → ℕ → Bool
-named l v = ltb (first_for l v) (label_count l)
+-- where its text stands
+abbrev pub first_text : List ℕ → ℕ → Option Part
+first_text l v = option_map text_part (first_for l v)
 
 -- ---- the label of variable v, from the site's list s and the factory's list f
 
+-- from where its text stands in each list, if it does: the site's own goes before the factory's
+abbrev pub place_of : Option Part → Option Part → Place
+place_of (Some p) factory = Site p
+place_of None (Some p) = Factory p
+place_of None None = Nowhere
+
 -- which list has it, and where in that list its text stands
 unfoldable pub label_of : List ℕ → List ℕ → ℕ → Place
-label_of s f v =
-    cond (bad_length s || bad_length f) Nowhere
-    (cond (named s v) (Site (text_part (first_for s v)))
-    (cond (named f v) (Factory (text_part (first_for f v)))
-    Nowhere))
+label_of s f v = cond (bad_length s || bad_length f) Nowhere (place_of (first_text s v) (first_text f v))
 
 -- of a thing that each of the two lists has, that of the list in which the place is; the site's where there is no label
 abbrev pub chosen : {A : Type 0} → Place → A → A → A
@@ -93,19 +98,19 @@ blank v = v ∷ replicate text_size 0
 
 -- the first of two records for a variable; the site's list before the factory's
 first_counts : label_of (blank 5 ++ blank 7 ++ blank 7) (blank 7) 7 ≡ Site (text_part 1)
-unfolding first bad_length names label_of blank
+unfolding first found bad_length names label_of blank
 first_counts = refl
 
 -- the factory's where the site's has none
 factory_next : label_of (blank 5) (blank 6 ++ blank 7) 7 ≡ Factory (text_part 1)
-unfolding first bad_length names label_of blank
+unfolding first found bad_length names label_of blank
 factory_next = refl
 
 -- none where the length of a list is wrong, though the other names the variable
 site_silences : label_of (5 ∷ []) (blank 7) 7 ≡ Nowhere
-unfolding first bad_length names label_of blank
+unfolding first found bad_length names label_of blank
 site_silences = refl
 
 factory_silences : label_of (blank 7) (5 ∷ []) 7 ≡ Nowhere
-unfolding first bad_length names label_of blank
+unfolding first found bad_length names label_of blank
 factory_silences = refl

@@ -1,7 +1,5 @@
 -- When a variable has no label, and which one it has otherwise.
-use Rattle.std.specs.Prelude.{ℕ, ◌*◌, ◌%◌, ◌≤◌, ◌<◌, Bool, true, false, ◌||◌, List, ◌⊎◌, ◌≡◌, refl, length, get_or}
-use Rattle.std.proofs.Common.{inl, inr, ⊎_elim, ap, sym, ◌∙◌, arith}
-use borrow.Author.Tests.{lt-ltb, le-ltb}
+use Rattle.std.specs.Prelude.{ℕ, ◌*◌, ◌%◌, ◌≤◌, ◌<◌, List, ◌≡◌, length, get_or}
 use Rattle.labels.specs.declared.Place.{Place}
 use Rattle.labels.specs.declared.Place.TheVariants.{Nowhere, Site, Factory}
 use Rattle.labels.specs.Label.{label_size, most_labels, label_count, text_part}

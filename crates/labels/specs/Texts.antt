@@ -1,7 +1,5 @@
 -- What is handed back as a label: all bytes of a text, or none; and whose memory they are.
-use Rattle.std.specs.Prelude.{ℕ, ◌≤◌, List, [], ◌⊎◌, ◌≡◌, refl, length}
-use Rattle.std.proofs.Math.Logic.{inl, inr}
-use Rattle.std.proofs.Common.{⊎_elim, ap, ◌∙◌, arith}
+use Rattle.std.specs.Prelude.{ℕ, List}
 use Rattle.parts.specs.Lent.{Lent}
 use Rattle.labels.specs.Label.{text_size}
 

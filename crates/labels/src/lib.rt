@@ -2,9 +2,9 @@
 #![tactic(auto)]
 
 ghost use Rattle.std.specs.Prelude.{◌≡◌};
-ghost use Rattle.labels.specs.Label.{bad_length, label_count, InLabels, names, first_for, text_part, label_of, LabelOutcome};
+ghost use Rattle.labels.specs.Label.{bad_length, label_count, InLabels, names, first_for, first_text, label_of, LabelOutcome};
 
-use diagrams::{Variable, wide};
+use diagrams::Variable;
 use parts::Part;
 
 // Bytes in a label record, and in its text: all but the first, which is the variable.
@@ -23,10 +23,11 @@ pub enum Place {
     Factory(Part),
 }
 
+#[tactic(auto, unfolding(crate::specs::Label::bad_length))]
 fn bad_length(list: &[u8]) -> bool
     ensures { result ≡ bad_length list.now }
 {
-    !(list.len() % LABEL_SIZE == 0) | (LABEL_SIZE * MOST_LABELS < list.len())
+    list.len() % LABEL_SIZE != 0 || LABEL_SIZE * MOST_LABELS < list.len()
 }
 
 fn count_labels(list: &[u8]) -> usize
@@ -35,55 +36,48 @@ fn count_labels(list: &[u8]) -> usize
     list.len() / LABEL_SIZE
 }
 
+#[tactic(auto, unfolding(crate::specs::Label::names))]
 fn names_variable(list: &[u8], variable: Variable, i: usize) -> bool
     requires { InLabels list.now i }
     ensures { result ≡ names list.now variable.0 i }
 {
-    wide(list[LABEL_SIZE * i]) == variable.0
+    Variable(usize::from(list[LABEL_SIZE * i])) == variable
 }
 
-// The first record for the variable; the number of records where there is none.
-fn first_record(list: &[u8], variable: Variable) -> usize
+// The first record for the variable.
+fn first_record(list: &[u8], variable: Variable) -> Option<usize>
     ensures { result ≡ first_for list.now variable.0 }
 {
-    let n = count_labels(list);
-    let mut i = 0;
-    while i < n {
-        if names_variable(list, variable, i) {
-            return i;
-        }
-        i += 1;
-    }
-    n
+    (0..count_labels(list)).find(|&i| names_variable(list, variable, i))
 }
 
-// Where the text of a record stands.
-fn text_part(list: &[u8], i: usize) -> Part
-    requires { InLabels list.now i }
-    ensures { result ≡ text_part i }
+// Where the text of that record stands.
+#[tactic(auto, using(crate::proofs::Labelled::found_inside))]
+fn first_text(list: &[u8], variable: Variable) -> Option<Part>
+    ensures { result ≡ first_text list.now variable.0 }
 {
+    let i = first_record(list, variable)?;
     let from = LABEL_SIZE * i + 1;
-    Part(from, from + TEXT_SIZE)
+    Some(Part(from, from + TEXT_SIZE))
 }
 
+#[tactic(auto, unfolding(crate::specs::Label::label_of))]
 pub fn label_place(site: &[u8], factory: &[u8], variable: Variable) -> Place
     ensures { result ≡ label_of site.now factory.now variable.0 }
 {
-    if bad_length(site) | bad_length(factory) {
-        return Place::Nowhere;
+    if bad_length(site) || bad_length(factory) {
+        Place::Nowhere
+    } else if let Some(part) = first_text(site, variable) {
+        Place::Site(part)
+    } else if let Some(part) = first_text(factory, variable) {
+        Place::Factory(part)
+    } else {
+        Place::Nowhere
     }
-    let i = first_record(site, variable);
-    if i < count_labels(site) {
-        return Place::Site(text_part(site, i));
-    }
-    let j = first_record(factory, variable);
-    if j < count_labels(factory) {
-        return Place::Factory(text_part(factory, j));
-    }
-    Place::Nowhere
 }
 
 // The text of the label, as a part of the list that has it; an empty part of the site's list where none has.
+#[tactic(auto, using(crate::proofs::Laws::handing))]
 pub fn label<'a>(site: &'a [u8], factory: &'a [u8], variable: Variable) -> &'a [u8]
     ensures { LabelOutcome site.now factory.now variable.0 site.entry.ref_ptr factory.entry.ref_ptr result.ref_ptr result.now }
 {

@@ -12,7 +12,5 @@ pub fn part_of<'a>(list: &'a [u8], part: Part) -> &'a [u8]
     requires { Inside part list.now }
     ensures { Handed part list.now list.entry.ref_ptr result.ref_ptr result.now }
 {
-    let from = part.0;
-    let to = part.1;
-    &list[from..to]
+    &list[part.0..part.1]
 }

@@ -1,31 +1,40 @@
 -- A word copied to its place, a number's digits, and a text up to its first zero, over plain variables.
-use Prim.Native.Nat.{ℕ, ◌+◌, ◌≤◌}
+use Prim.Native.Nat.{ℕ, ◌+◌, ◌-◌, ◌≤◌}
 use mathlib.Core.List.{List, ◌++◌}
-use mathlib.Core.Path.{◌≡◌, ap, sym, ◌∙◌}
+use mathlib.Core.Path.{◌≡◌, refl, ap, sym, ◌∙◌}
 use native.Mathlib.Omega.{arith}
 use mir.Syntax.{w64}
 use mir.Val.{Fits}
 use borrow.Author.Rules.{rules}
-use lib.ListN.{length, take, drop}
-use lib.Seq.{paste, length-paste, take-paste, drop-paste, take-length, length-take-le}
+use lib.ListN.{length, take}
+use borrow.Rule.Slice.Mut.{set_vals}
+use borrow.Rule.Slice.PartMut.{put_mid, mid_len, same_len_mid}
+use Rattle.std.proofs.lemmas.Slice.{take-put_mid, drop-put_mid}
+use Rattle.texts.specs.declared.Page.{Page}
 use Rattle.io.specs.Digits.{last_digits, IsDigitCount}
-use Rattle.lists.specs.Copy.{copied_to, copied_paste}
-use Rattle.lists.specs.First.{first_within}
-use Rattle.lists.specs.Fold.{Steps, steps_end}
-use Rattle.texts.specs.Text.{decimal, is_zero, first_zero, before_zero}
+use Rattle.std.specs.Prelude.{Option, ◌==◌, position}
+use Rattle.std.specs.Option.{unwrap_or}
+use Rattle.std.specs.List.{position_or_len}
+use Rattle.std.proofs.lemmas.List.Sums.{prefix_len-le-length}
+use Rattle.std.proofs.Common.{lt-ltb, le-ltb}
+use Rattle.lists.specs.Says.{either_side}
+use Rattle.texts.specs.Text.{decimal, before_zero}
 use Rattle.texts.specs.Short.{decimal_is}
-use Rattle.texts.specs.Put.{Put, space_as, put_as}
+use Rattle.texts.specs.Put.{Put, Space, space_as, put_as}
 
-pub word_put : (word a : List ℕ) {at n i : ℕ} {b : List ℕ} → Steps (copied_to at word) a n i b → n ≤ i → n ≡ length word → at + n ≤ length a
-    → Put a at word b (at + n)
-word_put word a {at} {n} {i} {b} s l e h =
-    let p : b ≡ paste a at word n = steps_end s l ∙ copied_paste at word a n (omega arith) h in
-    let whole : take at a ++ take n word ≡ take at a ++ word = ap (λ k. take at a ++ take k word) e ∙ ap (λ x. take at a ++ x) (take-length word) in
+pub word_put : (p : Page) (word : List ℕ) {ys : List ℕ} → ys ≡ word → Space p word
+    → Put p word (record { bytes = set_vals (put_mid p.len (p.len + length word - p.len) p.bytes.now ys) p.bytes; len = p.len + length word })
+word_put p word {ys} e h =
+    let old = p.bytes.now in
+    let width : p.len + length word - p.len ≡ length word = omega arith in
+    let long : length ys ≡ length word = ap length e in
+    let within : p.len ≤ length old = omega (arith, h.fits) in
     record {
-      same = ap length p ∙ length-paste a at word n h (omega arith);
-      moved = ap (λ k. at + k) e;
-      written = ap (take (at + n)) p ∙ take-paste a at word n (omega arith) (omega arith) ∙ whole;
-      behind = ap (drop (at + n)) p ∙ drop-paste a at word n (omega arith) (omega arith);
+      memory = refl;
+      same = same_len_mid p.len _ old ys (long ∙ sym (mid_len p.len (p.len + length word) old h.fits ∙ width));
+      moved = refl;
+      written = take-put_mid p.len _ old ys _ (omega arith) within ∙ ap (λ l. take p.len old ++ l) e;
+      behind = drop-put_mid p.len _ old ys _ (omega arith) within (omega arith);
     }
 
 -- d begins with the k digits of n, the fewest that hold it
@@ -36,11 +45,15 @@ pub ruleset spelling = (space_as, put_as, spelt, rules)
 
 -- ---- the bytes before the first zero
 
-pub cut_long : (text : List ℕ) {n : ℕ} → n ≡ first_zero text → n ≡ length (take n text)
-cut_long text {n} e = sym (length-take-le n text (rw e (first_within (is_zero text) (length text))))
-
-pub cut_at_zero : (text : List ℕ) {n : ℕ} → n ≡ first_zero text → before_zero text ≡ take n text
+pub cut_at_zero : (text : List ℕ) {o : Option ℕ} {n : ℕ} → o ≡ position (λ b. b == 0) text → n ≡ unwrap_or o (length text) → before_zero text ≡ take n text
 unfolding before_zero
-cut_at_zero text e = rw e
+cut_at_zero text e h =
+    let m = position_or_len (λ b. b == 0) text in
+    let within : m ≤ length text = prefix_len-le-length _ text in
+    let cut : unwrap_or (position (λ b. b == 0) text) (length text) ≡ m =
+    either_side m (length text)
+    (λ l. rw (lt-ltb m (length text) l))
+    (λ l. let same : length text ≡ m = omega arith in rw (le-ltb m (length text) l) same) in
+    ap (λ k. take k text) (sym (h ∙ ap (λ o. unwrap_or o (length text)) e ∙ cut))
 
-pub ruleset cutting = (space_as, put_as, cut_long, cut_at_zero, rules)
+pub ruleset cutting = (space_as, put_as, cut_at_zero, rules)

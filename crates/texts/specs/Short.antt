@@ -1,11 +1,11 @@
 -- How long the texts are at most, and that the fewest digits that hold a number are its decimal digits.
 use Rattle.std.specs.Prelude.{ℕ, zero, suc, ◌+◌, ◌*◌, ◌-◌, ◌/◌, ◌%◌, ◌^◌, ◌≤◌, ◌<◌, Bool, true, false, cond, List, [], ◌∷◌, ◌++◌, ◌≡◌, refl, T, ltb, leb, length}
-use Rattle.std.proofs.Common.{zero-le, suc-le-suc, ap, sym, ◌∙◌, le_refl, le_trans, lt_of_lt_of_le, not-suc-le-zero, not-le_of_lt, mul-suc, arith, lt-ltb, le-ltb, leb→le, lit<, lit≤, length-append, length-take-le}
+use Rattle.std.proofs.Common.{zero-le, suc-le-suc, ap, sym, ◌∙◌, le_refl, le_trans, lt_of_lt_of_le, not-suc-le-zero, not-le_of_lt, mul-suc, arith, lt-ltb, le-ltb, leb→le, lit<, lit≤, length-append, length-take}
 use Rattle.std.proofs.Math.Nat.{pow-le-pow_right}
 use Rattle.io.specs.Digits.{last_digits, IsDigitCount, hex_digit_ascii}
 use Rattle.lists.specs.First.{first, Passed, first_at, first_passed, first_within}
 use Rattle.lists.specs.Says.{either_side, true_false}
-use Rattle.texts.specs.Text.{places, decimal, numbered, is_zero, first_zero, before_zero, in_turn}
+use Rattle.texts.specs.Text.{places, decimal, numbered, before_zero, in_turn}
 
 -- ---- a number's digits
 
@@ -75,9 +75,7 @@ word_short word = short (le_refl (length word))
 
 pub before_zero_short : (text : List ℕ) (m : ℕ) → length text ≤ m → Short (before_zero text) m
 unfolding before_zero
-before_zero_short text m h =
-    let l : first_zero text ≤ length text = first_within (is_zero text) (length text) in
-    short (omega (arith, length-take-le (first_zero text) text l))
+before_zero_short text m h = short (rw length-take (omega arith))
 
 -- a number n below m, which k + 1 digits hold
 pub decimal_short : (n k m : ℕ) → n < m → T (leb m (10 ^ suc k)) → Short (decimal n) (suc k)

@@ -1,5 +1,6 @@
 -- Words and decimal numbers as lists of bytes, and texts one after the other.
-use Rattle.std.specs.Prelude.{ℕ, zero, suc, ◌^◌, Bool, List, [], ◌∷◌, ◌++◌, ◌≡◌, refl, eqb, ltb, length, get_or, take}
+use Rattle.std.specs.Prelude.{ℕ, zero, suc, ◌^◌, List, [], ◌∷◌, ◌++◌, ◌≡◌, refl, ◌==◌, ltb}
+use Rattle.std.specs.List.{before_first}
 use Prim.Native.Char.{code}
 use Prim.Native.String.{String}
 use Prim.Native.String as string
@@ -23,14 +24,8 @@ unfoldable pub numbered : List ℕ → ℕ → List ℕ
 numbered word n = word ++ decimal n
 
 -- the bytes of a text before its first zero; all of them where it has none
-abbrev pub is_zero : List ℕ → ℕ → Bool
-is_zero text i = eqb (get_or text i 0) 0
-
-abbrev pub first_zero : List ℕ → ℕ
-first_zero text = first (is_zero text) (length text)
-
 unfoldable pub before_zero : List ℕ → List ℕ
-before_zero text = take (first_zero text) text
+before_zero text = before_first (λ b. b == 0) text
 
 -- the texts f 0 to f (n - 1), one after the other
 unfoldable pub in_turn : (ℕ → List ℕ) → ℕ → List ℕ
@@ -44,13 +39,13 @@ largest = refl
 
 -- a text that ends at its first zero, one that fills its place, and one that begins with a zero
 zeros : before_zero (53 ∷ 50 ∷ 0 ∷ 97 ∷ 0 ∷ []) ≡ bytes "52"
-unfolding first before_zero
+unfolding before_zero
 zeros = refl
 
 full : before_zero (53 ∷ 50 ∷ 97 ∷ []) ≡ bytes "52a"
-unfolding first before_zero
+unfolding before_zero
 full = refl
 
 empty : before_zero (0 ∷ 53 ∷ 50 ∷ []) ≡ []
-unfolding first before_zero
+unfolding before_zero
 empty = refl

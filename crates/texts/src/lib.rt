@@ -1,69 +1,77 @@
-// Words and numbers put into a lent list of bytes. Each function puts its text at a place of the list and hands back the place after it.
+// Words and numbers put on a page.
 #![tactic(auto)]
 
-ghost use Rattle.std.specs.Prelude.{◌≡◌, ◌<◌, length};
-ghost use Rattle.texts.specs.Text.{decimal, numbered, is_zero, first_zero, before_zero};
+ghost use Rattle.std.specs.Prelude.{◌≡◌, ◌==◌, position};
+ghost use Rattle.texts.specs.Text.{decimal, numbered, before_zero};
 ghost use Rattle.texts.specs.Put.{Put, Space};
 
-pub fn put(out: &mut [u8], at: usize, word: &[u8]) -> usize
-    requires { Space out.old at word.now }
-    ensures { Put out.old at word.now out.new result }
-{
-    let n = word.len();
-    let mut i = 0;
-    while i < n {
-        out[at + i] = word[i];
-        i += 1;
+// A lent list of bytes that is written from its start on, and how many of them are written.
+#[derive(Drop)]
+pub struct Page<'a> {
+    bytes: &'a mut [u8],
+    len: usize,
+}
+
+impl<'a> Page<'a> {
+    // Nothing is written yet.
+    pub fn new(bytes: &'a mut [u8]) -> Page<'a>
+        ensures memory { result.bytes.ghost_name ≡ bytes.entry.ghost_name }
+        ensures empty { (result.bytes.now ≡ bytes.old) × (result.len ≡ 0) }
+    {
+        Page { bytes, len: 0 }
     }
-    at + n
-}
 
-pub fn put_decimal(out: &mut [u8], at: usize, number: usize) -> usize
-    requires { Space out.old at (decimal number) }
-    ensures { Put out.old at (decimal number) out.new result }
-{
-    let mut digits = [0u8; 20];
-    let n = io::decimal(number as u64, &mut digits);
-    put(out, at, &digits[..n])
-}
-
-// A word, and the number that follows it.
-pub fn put_numbered(out: &mut [u8], at: usize, word: &[u8], number: usize) -> usize
-    requires { Space out.old at (numbered word.now number) }
-    ensures { Put out.old at (numbered word.now number) out.new result }
-{
-    let next = put(out, at, word);
-    put_decimal(out, next, number)
-}
-
-// ---- a text that ends at its first zero
-
-fn is_zero(text: &[u8], i: usize) -> bool
-    requires { i < length text.now }
-    ensures { result ≡ is_zero text.now i }
-{
-    text[i] == 0
-}
-
-// Where the first zero stands; how long the text is where it has none.
-fn first_zero(text: &[u8]) -> usize
-    ensures { result ≡ first_zero text.now }
-{
-    let n = text.len();
-    let mut i = 0;
-    while i < n {
-        if is_zero(text, i) {
-            return i;
-        }
-        i += 1;
+    // How many bytes are written.
+    pub fn len(&self) -> usize
+        ensures { result ≡ self.now.len }
+    {
+        self.len
     }
-    n
+
+    #[tactic(auto, using(crate::proofs::Laws::word_put))]
+    pub fn put(&mut self, word: &[u8])
+        requires { Space self.old word.now }
+        ensures { Put self.old word.now self.new }
+    {
+        let end = self.len + word.len();
+        self.bytes[self.len..end].copy_from_slice(word);
+        self.len = end;
+    }
+
+    #[tactic(auto, using(crate::proofs::Laws::spelling))]
+    pub fn put_decimal(&mut self, number: usize)
+        requires { Space self.old (decimal number) }
+        ensures { Put self.old (decimal number) self.new }
+    {
+        let mut digits = [0u8; 20];
+        let n = io::decimal(number as u64, &mut digits);
+        self.put(&digits[..n]);
+    }
+
+    // A word, and the number that follows it.
+    #[tactic(auto, using(crate::specs::Put::putting), unfolding(crate::specs::Text::numbered))]
+    pub fn put_numbered(&mut self, word: &[u8], number: usize)
+        requires { Space self.old (numbered word.now number) }
+        ensures { Put self.old (numbered word.now number) self.new }
+    {
+        self.put(word);
+        self.put_decimal(number);
+    }
+
+    // The bytes of a text before its first zero, or all of them.
+    #[tactic(auto, using(crate::proofs::Laws::cutting))]
+    pub fn put_before_zero(&mut self, text: &[u8])
+        requires { Space self.old (before_zero text.now) }
+        ensures { Put self.old (before_zero text.now) self.new }
+    {
+        let end = first_zero(text).unwrap_or(text.len());
+        self.put(&text[..end]);
+    }
 }
 
-pub fn put_before_zero(out: &mut [u8], at: usize, text: &[u8]) -> usize
-    requires { Space out.old at (before_zero text.now) }
-    ensures { Put out.old at (before_zero text.now) out.new result }
+// Where the first zero stands.
+fn first_zero(text: &[u8]) -> Option<usize>
+    ensures { result ≡ position (λ b. b == 0) text.now }
 {
-    let n = first_zero(text);
-    put(out, at, &text[..n])
+    text.iter().position(|b| *b == 0)
 }
