@@ -7,15 +7,14 @@ use Rattle.std.proofs.Common.{sym, ◌∙◌, not-suc-le-zero, add-zero, arith}
 use Rattle.std.proofs.Math.ListN.{length, get_or}
 use Rattle.std.proofs.lemmas.List.{get_or-replicate}
 use borrow.Author.Tests.{ne_eqb, eq-eqb, eqb-true, not-false, le-ltb, lt-leb}
-use Rattle.lists.specs.First.{first, any, first_none}
+use Rattle.lists.specs.First.{any, first_none}
 use Rattle.lists.specs.Mem.{Mem, Apart, apart_at, at_mem}
 use Rattle.lists.specs.Which.{which_mem, which_apart}
 use Rattle.lists.specs.Says.{either_side, true_false}
 use Rattle.lists.specs.Truth.{or_neither}
 use Rattle.diagrams.specs.Layout.{records}
 use Rattle.orders.specs.Exchange.{exchange}
-use Rattle.checks.specs.Stages.{verdict_of, none, also, only_passed, clear_if}
-use Rattle.checks.specs.declared.Verdict.TheVariants.{Clear}
+use Rattle.checks.specs.Stages.{clear, verdict_of, none, also, only_passed, clear_if}
 use Rattle.undo.specs.Stores.{Buffer, in_log, State, buffer_of}
 use Rattle.undo.specs.Mending.{puts_long}
 use Rattle.undo.specs.Log.{entry_size, Entry, packed, entry_at, kind_at, number_at, seal_at, seal_mark, is_sealed, seal_count, counted, entries_held}
@@ -238,7 +237,7 @@ module _ (log : List ℕ) (numbers : List ℕ) (level : ℕ) (t o : List ℕ) (N
             ne_eqb 0 1 (λ z. omega arith),
           )
 
-  pub sealed_accepted : bad_log_size log ≡ false → verdict_of (log_stages L N n) ≡ Clear
+  pub sealed_accepted : bad_log_size log ≡ false → verdict_of (log_stages L N n) ≡ clear
   unfolding log_stages entry_stages
   sealed_accepted size = clear_if _ (also (only_passed 0 (same_size L log L-long size)) (also (only_passed _ good_seal) (also (record { at = entries }) none)))
     where
@@ -255,7 +254,7 @@ module _ (log : List ℕ) (numbers : List ℕ) (level : ℕ) (t o : List ℕ) (N
 
 -- ---- whatever a cut left
 
-pub quiet_accepted : (t o : List ℕ) (N n : ℕ) (a : State) → Quiet t o a → bad_log_size a.log ≡ false → verdict_of (log_stages a.log N n) ≡ Clear
+pub quiet_accepted : (t o : List ℕ) (N n : ℕ) (a : State) → Quiet t o a → bad_log_size a.log ≡ false → verdict_of (log_stages a.log N n) ≡ clear
 unfolding log_stages entry_stages bad_seal
 quiet_accepted t o N n a q size = clear_if _ (also (only_passed 0 size) (also (only_passed _ seal) (also (record { at = nothing }) none)))
   where
@@ -280,7 +279,7 @@ cut_long b f fs s image k = recoveries_long b fs (swap_cut f s image k) ∙ puts
 
 module _ (s : State) (image : List ℕ) (k : ℕ) (ready : Ready s image k) (size : bad_log_size s.log ≡ false) where
   undone_accepted : (a : State) → length a.log ≡ length s.log → Undone s image k ready a
-      → verdict_of (log_stages a.log (records s.table) (length s.order)) ≡ Clear
+      → verdict_of (log_stages a.log (records s.table) (length s.order)) ≡ clear
   undone_accepted a e (quiet q) = quiet_accepted s.table s.order (records s.table) (length s.order) a q (same_size a.log s.log e size)
   undone_accepted a e (torn o) =
       rw (torn_log s image k ready a o)
@@ -289,7 +288,7 @@ module _ (s : State) (image : List ℕ) (k : ℕ) (ready : Ready s image k) (siz
       (which_apart (changed s.table image) (records s.table)) ready.level size)
 
   -- so no log is refused after a cut, nor after several
-  pub never_refused : (f : ℕ) (fs : List ℕ) → verdict_of (log_stages (recoveries fs (swap_cut f s image k)).log (records s.table) (length s.order)) ≡ Clear
+  pub never_refused : (f : ℕ) (fs : List ℕ) → verdict_of (log_stages (recoveries fs (swap_cut f s image k)).log (records s.table) (length s.order)) ≡ clear
   never_refused f fs =
       either_side f (length (swap_stores s image k))
       (λ h. undone_accepted _ long (recoveries_undone s image k ready fs _ (cut_early s image k ready f h)))

@@ -6,7 +6,9 @@ use Rattle.std.proofs.lemmas.Bool.{not-false}
 use Rattle.lists.specs.First.{any}
 use Rattle.lists.specs.Truth.{or_neither}
 use Rattle.checks.specs.Stages.{Stage, stage, stage_at}
-use Rattle.undo.specs.Log.{entry_size, most_log_records, log_records, kind_at, number_at, of_record, of_pair, entries_held, seal_at, is_sealed, seal_count, counted}
+use Rattle.checks.specs.declared.Fault.TheVariants.{BadLog, SealedLog}
+use Rattle.undo.specs.Log.{entry_size, most_log_records, log_records, kind_at, number_at, of_record, of_pair}
+use Rattle.undo.specs.Log.{entries_held, seal_at, is_sealed, seal_count, counted}
 
 -- not from 1 to 4,096 whole records
 unfoldable pub bad_log_size : List ℕ → Bool
@@ -43,14 +45,14 @@ unfoldable pub bad_entry : List ℕ → ℕ → ℕ → ℕ → Bool
 bad_entry log N n k = malformed log k || past log N n k || repeats log k
 
 unfoldable pub entry_stages : List ℕ → ℕ → ℕ → List Stage
-entry_stages log N n = stage 14 (bad_entry log N n) (counted log) ∷ []
+entry_stages log N n = stage BadLog (bad_entry log N n) (counted log) ∷ []
 
 unfoldable pub log_stages : List ℕ → ℕ → ℕ → List Stage
-log_stages log N n = stage_at 14 0 (bad_log_size log) ∷ stage_at 14 (log_records log - 1) (bad_seal log) ∷ entry_stages log N n
+log_stages log N n = stage_at BadLog 0 (bad_log_size log) ∷ stage_at BadLog (log_records log - 1) (bad_seal log) ∷ entry_stages log N n
 
 -- a swap or a slice is asked for while the log is sealed: one that was cut waits for its recovery
 unfoldable pub open_stages : List ℕ → ℕ → ℕ → List Stage
-open_stages log N n = log_stages log N n ++ (stage_at 15 0 (is_sealed log) ∷ [])
+open_stages log N n = log_stages log N n ++ (stage_at SealedLog 0 (is_sealed log) ∷ [])
 
 -- ---- what the sizes say
 

@@ -1,7 +1,9 @@
 -- The numbers of refusals 14 and 15 are small: no log has more records than its limit, and no seal that passes counts more entries.
 use Rattle.std.specs.Prelude.{ℕ, ◌≤◌, ◌<◌, Bool, true, false, cond, List, ◌∷◌, ◌++◌, ◌≡◌, refl}
 use native.Mathlib.Omega.{arith}
-use Rattle.checks.specs.Stages.{Stage, stage_at, FailsFirst, here, later, passed_only}
+use Rattle.checks.specs.Stages.{number, Stage, stage_at, FailsFirst, here, later, passed_only}
+use Rattle.checks.specs.declared.Fault.{Fault}
+use Rattle.checks.specs.declared.Fault.TheVariants.{SealedLog}
 use Rattle.undo.specs.Log.{most_log_records, is_sealed, seal_count, entries_held, counted}
 use Rattle.check_log.specs.BadLog.{bad_seal, entry_stages, log_stages, open_stages, log_sizes, seal_few}
 
@@ -14,7 +16,8 @@ counted_few log e = go (is_sealed log) refl
 
 -- number and place are below m, where those of later checks are
 module _ (log : List ℕ) (N n m : ℕ) (more : List Stage) (big : most_log_records ≤ m) where
-  pub log_below : (j x : ℕ) → ((j y : ℕ) → FailsFirst more j y → (j < m) × (y < m)) → FailsFirst (log_stages log N n ++ more) j x → (j < m) × (x < m)
+  pub log_below : (j : Fault) (x : ℕ) → ((j : Fault) (y : ℕ) → FailsFirst more j y → (number j < m) × (y < m))
+      → FailsFirst (log_stages log N n ++ more) j x → (number j < m) × (x < m)
   unfolding log_stages entry_stages
   log_below _ x rest (here l d p) = (omega arith, omega arith)
   log_below _ x rest (later size (here l d p)) =
@@ -23,11 +26,11 @@ module _ (log : List ℕ) (N n m : ℕ) (more : List Stage) (big : most_log_reco
       (omega arith, omega (arith, counted_few log (passed_only _ seal), (log_sizes log (passed_only 0 size)).few))
   log_below j x rest (later size (later seal (later entries f))) = rest j x f
 
-pub open_below : (log : List ℕ) (N n m : ℕ) (more : List Stage) → most_log_records ≤ m → (j x : ℕ)
-    → ((j y : ℕ) → FailsFirst more j y → (j < m) × (y < m)) → FailsFirst (open_stages log N n ++ more) j x → (j < m) × (x < m)
+pub open_below : (log : List ℕ) (N n m : ℕ) (more : List Stage) → most_log_records ≤ m → (j : Fault) (x : ℕ)
+    → ((j : Fault) (y : ℕ) → FailsFirst more j y → (number j < m) × (y < m)) → FailsFirst (open_stages log N n ++ more) j x → (number j < m) × (x < m)
 unfolding open_stages log_stages entry_stages
-open_below log N n m more big j x rest f = log_below log N n m (stage_at 15 0 (is_sealed log) ∷ more) big j x by_seal f
+open_below log N n m more big j x rest f = log_below log N n m (stage_at SealedLog 0 (is_sealed log) ∷ more) big j x by_seal f
   where
-    by_seal : (j y : ℕ) → FailsFirst (stage_at 15 0 (is_sealed log) ∷ more) j y → (j < m) × (y < m)
+    by_seal : (j : Fault) (y : ℕ) → FailsFirst (stage_at SealedLog 0 (is_sealed log) ∷ more) j y → (number j < m) × (y < m)
     by_seal _ y (here l d p) = (omega arith, omega arith)
     by_seal j y (later h g) = rest j y g

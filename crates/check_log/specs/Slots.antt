@@ -29,8 +29,8 @@ Sized log = (bad_log_size log ≡ false) × (bad_seal log ≡ false)
 abbrev pub Placeable : ℕ → ℕ → Type 0
 Placeable N n = (1 ≤ n) × (N + n ≤ slots)
 
-abbrev pub is_marked : List ℕ → ℕ → Bool
-is_marked l x = eqb (get_or l x 0) 1
+abbrev pub is_marked : List Bool → ℕ → Bool
+is_marked l x = get_or l x false
 
 -- ---- an entry that is well formed and in its place
 
@@ -83,16 +83,15 @@ same_slot N n j k a b p q = go (eqb j 0) (eqb k 0) refl refl
 
 -- ---- marking
 
-mark : (l : List ℕ) (y x : ℕ) → x < length l → is_marked (set l y 1) x ≡ (is_marked l x || eqb y x)
+mark : (l : List Bool) (y x : ℕ) → x < length l → is_marked (set l y true) x ≡ (is_marked l x || eqb y x)
 mark l y x h = go (eqb y x) refl
   where
-    go : (b : Bool) → eqb y x ≡ b → is_marked (set l y 1) x ≡ (is_marked l x || b)
-    go true e = let p : y ≡ x = eqb-true y x e in rw (p, get_or-set_same l x 1 0 h) (or_true (is_marked l x))
-    go false e = rw (get_or-set_other l y x 1 0 (λ q. eqb-false y x e (sym q))) (or_false (is_marked l x))
+    go : (b : Bool) → eqb y x ≡ b → is_marked (set l y true) x ≡ (is_marked l x || b)
+    go true e = let p : y ≡ x = eqb-true y x e in rw (p, get_or-set_same l x true false h) (or_true (is_marked l x))
+    go false e = rw (get_or-set_other l y x true false (λ q. eqb-false y x e (sym q))) (or_false (is_marked l x))
 
--- the first k of c entries are good, and their slots are marked
-pub record Marked (log : List ℕ) (N n c k : ℕ) (l : List ℕ) : Type 0 where
-  pub within : k ≤ c
+-- the first k entries are good, and their slots are marked
+pub record Marked (log : List ℕ) (N n k : ℕ) (l : List Bool) : Type 0 where
   pub long : length l ≡ slots
   pub passed : Passed (bad_entry log N n) k
   pub noted : (x : ℕ) → x < slots → is_marked l x ≡ any (λ j. eqb (slot_at log N j) x) k
@@ -116,7 +115,7 @@ slot_small log N n k h e = go (eqb (kind_at log k) 0) refl
     go false q = omega (arith, p.in_order_lem (eqb-false (kind_at log k) 0 q))
 
 -- the mark at its slot says whether an entry repeats an earlier one
-module _ (log : List ℕ) (N n c k : ℕ) (l : List ℕ) (room : N + n ≤ slots) (m : Marked log N n c k l) (e : misplaced log N n k ≡ false) where
+module _ (log : List ℕ) (N n k : ℕ) (l : List Bool) (room : N + n ≤ slots) (m : Marked log N n k l) (e : misplaced log N n k ≡ false) where
   repeats_says : repeats log k ≡ is_marked l (slot_at log N k)
   unfolding repeats slot_at
   repeats_says =
@@ -128,11 +127,10 @@ module _ (log : List ℕ) (N n c k : ℕ) (l : List ℕ) (room : N + n ≤ slots
   pub entry_says : bad_entry log N n k ≡ is_marked l (slot_at log N k)
   entry_says = bad_parts log N n k ∙ rw e repeats_says
 
-  pub marks_more : k < c → is_marked l (slot_at log N k) ≡ false → Marked log N n c (k + 1) (set l (slot_at log N k) 1)
-  marks_more h z =
+  pub marks_more : is_marked l (slot_at log N k) ≡ false → Marked log N n (k + 1) (set l (slot_at log N k) true)
+  marks_more z =
       record {
-        within = omega arith;
-        long = length-set l (slot_at log N k) 1 ∙ m.long;
+        long = length-set l (slot_at log N k) true ∙ m.long;
         passed = passed_more m.passed (entry_says ∙ z);
         noted =
             λ x q. mark l (slot_at log N k) x (rw m.long q)
