@@ -1,5 +1,5 @@
 -- Laws of what specs/Theorems.antt defines.
-use Rattle.std.specs.Prelude.{ℕ, ◌^◌, ◌≤◌, ◌<◌, Bool, true, false, List, [], ◌∷◌, ◌≡◌, eqb, Float, length}
+use Rattle.std.specs.Prelude.{ℕ, ◌^◌, ◌≤◌, ◌<◌, Bool, true, false, List, [], ◌∷◌, ◌≡◌, eqb, Float, length, Ok, Err}
 use Rattle.std.proofs.Math.Path.{refl, ap, sym}
 use Rattle.std.proofs.Common.{◌∙◌, not-le_of_lt}
 use native.Mathlib.Omega.{arith}
@@ -8,12 +8,11 @@ use Rattle.std.specs.Float.Ieee.Exact.{HasValue}
 use Rattle.lists.specs.Apart.{apart}
 use Rattle.lists.specs.Combinations.{how_many, all_or_none}
 use Rattle.lists.proofs.Combinations.{many_same, many_most, many_if, many_only}
-use Rattle.lists.specs.Count.{bit, bit_one}
 use Rattle.lists.specs.Says.{denies}
 use Rattle.diagrams.specs.Layout.{most_records, root_count}
 use Rattle.count_shares.specs.Share.{most_counted, share, quotient}
 use Rattle.count_shares.proofs.Exact.{share_exact, share_quotient, count_small}
-use Rattle.checks.specs.Stages.{Stage, refusal, stage_at, verdict_of, AllPass, FailsFirst, none, also, both_rows, only_passed, passed_only}
+use Rattle.checks.specs.Stages.{Verdict, clear, Stage, refusal, stage_at, verdict_of, AllPass, FailsFirst, none, also, both_rows, only_passed, passed_only}
 use Rattle.checks.specs.Stages.{clear_if, clear_only, refused_if, refused_only, row_passes}
 use Rattle.checks.specs.Check.{check_stages}
 use Rattle.checks.specs.Theorems.{Bounded}
@@ -21,38 +20,35 @@ use Rattle.checks.proofs.Theorems.{refusal_small}
 use Rattle.checks.specs.Usable.{Usable}
 use Rattle.checks.proofs.Usable.{usable_if, passes_all, usable_clear}
 use Rattle.checks.specs.declared.Refusal.{Refusal}
-use Rattle.checks.specs.declared.Verdict.{Verdict}
-use Rattle.checks.specs.declared.Verdict.TheVariants as verdict
+use Rattle.checks.specs.declared.Fault.{Fault}
+use Rattle.checks.specs.declared.Fault.TheVariants.{TooManyInputs, NoRoot}
 use Rattle.reading.specs.Read.{no_root, read_of, root_value}
 use Rattle.reading.specs.Theorems.{GoodInputs}
 use Rattle.reading.proofs.Theorems.{no_root_says, value_reads, reads_if, reads_only, computed}
-use Rattle.reading.specs.declared.ReadAnswer.TheVariants as reading
-use Rattle.counting.specs.Count.{too_many_inputs, count_stages, trips, count_after, count_of, CountOutcome}
-use Rattle.counting.specs.declared.CountAnswer.{CountAnswer}
-use Rattle.counting.specs.declared.CountAnswer.TheVariants as counting
+use Rattle.counting.specs.Count.{CountAnswer, counted, too_many_inputs, count_stages, trips, count_after, count_of, CountOutcome}
 use Rattle.counting.specs.Theorems.{Counts, answers_one}
 
 module _ (t r o : List ℕ) (position : ℕ) where
   -- after Check's checks
   abbrev own_stages : List Stage
-  own_stages = stage_at 16 (length o) (too_many_inputs o) ∷ stage_at 10 position (no_root r position) ∷ []
+  own_stages = stage_at TooManyInputs (length o) (too_many_inputs o) ∷ stage_at NoRoot position (no_root r position) ∷ []
 
-  pub counts_if : {c : ℕ} {s : Float} → Counts t r o position c s → count_of t r o position ≡ counting.Counted c s
+  pub counts_if : {c : ℕ} {s : Float} → Counts t r o position c s → count_of t r o position ≡ counted c s
   unfolding count_of count_stages
   counts_if w =
       let no-root = denies (no_root_says r position) (not-le_of_lt w.there) in
       let few = le-ltb most_counted (length o) w.few_inputs in
       let own = clear_if own_stages (also (only_passed (length o) few) (also (only_passed position no-root) none)) in
-      let clear : verdict.Clear ≡ verdict_of (count_stages t r o position) =
+      let passed : clear ≡ verdict_of (count_stages t r o position) =
       row_passes (check_stages t r o) own_stages (sym (usable_clear t r o w.usable)) refl (sym own) in
-      rw (← clear, w.share, w.count)
+      rw (← passed, w.share, w.count)
 
-  told : (v : Verdict) {c : ℕ} {s : Float} → count_after t r o position v ≡ counting.Counted c s
-      → (v ≡ verdict.Clear) × (c ≡ trips t r o position) × (s ≡ share (trips t r o position) (length o))
-  told verdict.Clear e = (refl, cc, cc)
-  told (verdict.Refused w) e = apart (cc)
+  told : (v : Verdict) {c : ℕ} {s : Float} → count_after t r o position v ≡ counted c s
+      → (v ≡ clear) × (c ≡ trips t r o position) × (s ≡ share (trips t r o position) (length o))
+  told (Ok _) e = (refl, cc, cc)
+  told (Err w) e = apart (cc)
 
-  clear_counts : verdict_of (count_stages t r o position) ≡ verdict.Clear → Usable t r o × (length o ≤ most_counted) × (position < root_count r)
+  clear_counts : verdict_of (count_stages t r o position) ≡ clear → Usable t r o × (length o ≤ most_counted) × (position < root_count r)
   unfolding count_stages
   clear_counts e = go (both_rows (check_stages t r o) own_stages (clear_only _ e))
     where
@@ -63,11 +59,11 @@ module _ (t r o : List ℕ) (position : ℕ) where
         leb-false (root_count r) position (passed_only position root),
       )
 
-  pub counts_only : {c : ℕ} {s : Float} → count_of t r o position ≡ counting.Counted c s → Counts t r o position c s
+  pub counts_only : {c : ℕ} {s : Float} → count_of t r o position ≡ counted c s → Counts t r o position c s
   unfolding count_of
   counts_only e =
-      let (clear, p, q) = told _ e in
-      let (u, f, b) = clear_counts clear in
+      let (passed, p, q) = told _ e in
+      let (u, f, b) = clear_counts passed in
       record { usable = u; few_inputs = f; there = b; count = p; share = q ∙ ap (λ k. share k (length o)) (sym p) }
 
   module _ {c : ℕ} {s : Float} (w : Counts t r o position c s) where
@@ -89,18 +85,18 @@ module _ (t r o : List ℕ) (position : ℕ) where
     counts_reads =
         w.count
         ∙ many_same (length o) (root_value t r o position) _
-        (λ inputs g. sym (ap answers_one (reads_if t r o position inputs (value_reads t r o position inputs w.usable w.there g)) ∙ bit_one _))
+        (λ inputs g. sym (ap answers_one (reads_if t r o position inputs (value_reads t r o position inputs w.usable w.there g))))
 
     -- under every combination Read answers b exactly where the count is none (b false), or all (b true)
     module _ (b : Bool) where
-      pub uniform_only : c ≡ all_or_none b (length o) → (inputs : List ℕ) → GoodInputs o inputs → read_of t r o position inputs ≡ reading.Value (bit b)
+      pub uniform_only : c ≡ all_or_none b (length o) → (inputs : List ℕ) → GoodInputs o inputs → read_of t r o position inputs ≡ Ok b
       unfolding trips
       uniform_only e inputs g =
           let reads = value_reads t r o position inputs w.usable w.there g in
           let is = many_only b (length o) (root_value t r o position) (sym w.count ∙ e) inputs g in
-          reads_if t r o position inputs reads ∙ ap (λ d. reading.Value (bit d)) is
+          reads_if t r o position inputs reads ∙ ap Ok is
 
-      pub uniform_if : ((inputs : List ℕ) → GoodInputs o inputs → read_of t r o position inputs ≡ reading.Value (bit b)) → c ≡ all_or_none b (length o)
+      pub uniform_if : ((inputs : List ℕ) → GoodInputs o inputs → read_of t r o position inputs ≡ Ok b) → c ≡ all_or_none b (length o)
       unfolding trips
       uniform_if h =
           w.count
@@ -108,19 +104,19 @@ module _ (t r o : List ℕ) (position : ℕ) where
 
   -- ---- Count refuses with k at x exactly where check k fails first, at x
 
-  refused : (v : Verdict) (w : Refusal) → count_after t r o position v ≡ counting.Refused w → v ≡ verdict.Refused w
-  refused verdict.Clear w e = apart (cc)
-  refused (verdict.Refused u) w e = cc
+  refused : (v : Verdict) (w : Refusal) → count_after t r o position v ≡ Err w → v ≡ Err w
+  refused (Ok _) w e = apart (cc)
+  refused (Err u) w e = cc
 
-  pub count_refuses : (k x : ℕ) → FailsFirst (count_stages t r o position) k x → count_of t r o position ≡ counting.Refused (refusal k x)
+  pub count_refuses : (k : Fault) (x : ℕ) → FailsFirst (count_stages t r o position) k x → count_of t r o position ≡ Err (refusal k x)
   unfolding count_of
   count_refuses k x f = ap (count_after t r o position) (refused_if (count_stages t r o position) k x f)
 
-  pub count_refuses_only : (k x : ℕ) → count_of t r o position ≡ counting.Refused (refusal k x) → FailsFirst (count_stages t r o position) k x
+  pub count_refuses_only : (k : Fault) (x : ℕ) → count_of t r o position ≡ Err (refusal k x) → FailsFirst (count_stages t r o position) k x
   unfolding count_of
   count_refuses_only k x e = refused_only (count_stages t r o position) k x (refused _ (refusal k x) e)
 
-  pub count_place_small : (m k x : ℕ) → most_records ≤ m → position < m → count_of t r o position ≡ counting.Refused (refusal k x) → x < m
+  pub count_place_small : (m : ℕ) (k : Fault) (x : ℕ) → most_records ≤ m → position < m → count_of t r o position ≡ Err (refusal k x) → x < m
   unfolding count_of count_stages Bounded
   count_place_small m k x g l e =
       (refusal_small t r o own_stages m k x g (λ s. (omega arith, omega (arith, s.few_variables), (omega arith, omega arith, tt)))

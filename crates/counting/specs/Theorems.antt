@@ -1,5 +1,5 @@
 -- What Count answers, and when.
-use Rattle.std.specs.Prelude.{ℕ, ◌^◌, ◌≤◌, ◌<◌, Bool, true, false, List, [], ◌∷◌, ◌≡◌, eqb, Float, length}
+use Rattle.std.specs.Prelude.{ℕ, ◌^◌, ◌≤◌, ◌<◌, Bool, true, false, List, [], ◌∷◌, ◌≡◌, eqb, Float, length, Ok, Err}
 use Rattle.std.proofs.Math.Path.{refl, ap, sym}
 use Rattle.std.proofs.Common.{◌∙◌, not-le_of_lt}
 use native.Mathlib.Omega.{arith}
@@ -8,8 +8,7 @@ use Rattle.std.specs.Float.Ieee.Exact.{HasValue}
 use Rattle.diagrams.specs.Layout.{root_count}
 use Rattle.count_shares.specs.Share.{most_counted, share}
 use Rattle.checks.specs.Usable.{Usable}
-use Rattle.reading.specs.declared.ReadAnswer.{ReadAnswer}
-use Rattle.reading.specs.declared.ReadAnswer.TheVariants as reading
+use Rattle.reading.specs.Read.{ReadAnswer}
 use Rattle.counting.specs.Count.{trips}
 
 -- ---- Count tells a number exactly for a table that the relay can use, of no more inputs than are counted, and a root that is there
@@ -25,5 +24,5 @@ pub record Counts (t r o : List ℕ) (position c : ℕ) (s : Float) : Type 0 whe
 
 -- does Read answer 1?
 abbrev pub answers_one : ReadAnswer → Bool
-answers_one (reading.Value n) = eqb n 1
-answers_one (reading.Refused w) = false
+answers_one (Ok b) = b
+answers_one (Err w) = false

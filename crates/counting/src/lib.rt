@@ -3,39 +3,23 @@
 
 ghost use Rattle.counting.specs.Count.{CountOutcome};
 
-use checks::{Refusal, Verdict};
+use checks::{Fault, Refusal};
+use count_levels::Trips;
 use count_shares::MOST_COUNTED;
 
-// What Count answers: how many combinations and their share of all, or a refusal.
-#[derive(Clone, Copy)]
-pub enum CountAnswer {
-    Counted { count: u64, share: f64 },
-    Refused(Refusal),
-}
-
-pub fn count(table: &[u8], roots: &[u8], order: &[u8], position: usize) -> CountAnswer
+// How many combinations and their share of all, or a refusal.
+pub fn count(
+    table: &[u8],
+    roots: &[u8],
+    order: &[u8],
+    position: usize,
+) -> Result<Trips, Refusal>
     ensures { CountOutcome table.now roots.now order.now position result }
 {
-    let verdict = checks::verdict_of_all(table, roots, order);
-    if let Verdict::Refused(refusal) = verdict {
-        return CountAnswer::Refused(refusal);
-    }
+    checks::verdict_of_all(table, roots, order)?;
     let n = order.len();
-    if MOST_COUNTED < n {
-        return CountAnswer::Refused(Refusal {
-            number: 16,
-            place: n,
-        });
-    }
-    if diagrams::count_roots(roots) <= position {
-        return CountAnswer::Refused(Refusal {
-            number: 10,
-            place: position,
-        });
-    }
-    let trips = count_levels::trips_of(table, order, diagrams::root(roots, position));
-    CountAnswer::Counted {
-        count: trips.count,
-        share: trips.share,
-    }
+    Fault::TooManyInputs.refuse_if(MOST_COUNTED < n, n)?;
+    Fault::NoRoot.refuse_if(diagrams::count_roots(roots) <= position, position)?;
+    let root = diagrams::root(roots, position);
+    Ok(count_levels::trips_of(table, order, root))
 }
