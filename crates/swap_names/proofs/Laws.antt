@@ -3,7 +3,6 @@ use Prim.Native.Nat.{ℕ, ◌+◌, ◌≤◌}
 use mathlib.Core.Bool.{Bool, true, false, not, ◌&&◌}
 use mathlib.Core.List.{List}
 use mathlib.Core.Path.{◌≡◌, sym, ◌∙◌}
-use native.Mathlib.Omega.{arith}
 use borrow.Author.Rules.{rules}
 use lib.ListN.{length, get_or, set}
 use lib.Seq.{set_out}
@@ -48,9 +47,6 @@ module _ (t l : List ℕ) (i : ℕ) where
     other_passes h = rw (other ∙ h)
 
 -- what is left of the room for two names
-pub room_one : {l : List ℕ} → CountRoom l 2 → CountRoom l 1
-room_one c = room_less c (omega arith)
-
 pub room_left : {l l' : List ℕ} (y : ℕ) → CountRoom l 2 → l' ≡ named l y → CountRoom l' 1
 room_left y c e = rw e (room_named y 1 c)
 

@@ -38,12 +38,9 @@ fn add_all(table: &[u8], y: Variable, names: &[u16], slots: &mut [u16], free: us
     requires { (NamesFor table.now names.now × RoomFor table.now slots.old) × FreeListed table.now slots.old free }
     ensures { Added table.now y.0 names.now slots.new result }
 {
-    let m = diagrams::count_records(table);
     let mut k = free;
-    let mut i = 0;
-    while i < m {
+    for i in 0..diagrams::count_records(table) {
         k = add_if_dying(table, y, names, slots, k, RecordNumber(i));
-        i += 1;
     }
     k
 }

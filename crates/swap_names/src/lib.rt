@@ -26,7 +26,7 @@ fn count_name(names: &mut [u16], x: Reference)
 {
     let at = x.0;
     if at < names.len() {
-        names[at] = names[at] + 1;
+        names[at] += 1;
     }
 }
 
@@ -43,11 +43,8 @@ fn count_roots(names: &mut [u16], roots: &[u8])
     requires { CountRoom names.old (2 * root_count roots.now) }
     ensures { names.new ≡ fold (named_root roots.now) names.old (root_count roots.now) }
 {
-    let m = diagrams::count_roots(roots);
-    let mut k = 0;
-    while k < m {
+    for k in 0..diagrams::count_roots(roots) {
         count_name(names, diagrams::root(roots, k));
-        k += 1;
     }
 }
 
@@ -65,11 +62,8 @@ fn count_others(names: &mut [u16], table: &[u8], x: Variable)
     requires { CountRoom names.old (2 * records table.now) }
     ensures { names.new ≡ fold (named_other table.now x.0) names.old (records table.now) }
 {
-    let m = diagrams::count_records(table);
-    let mut i = 0;
-    while i < m {
+    for i in 0..diagrams::count_records(table) {
         count_other(names, table, x, RecordNumber(i));
-        i += 1;
     }
 }
 
@@ -86,6 +80,5 @@ fn is_unnamed(names: &[u16], i: RecordNumber) -> bool
     requires { (i.0 + 2 < length names.now) × (i.0 < 65536) }
     ensures { result ≡ unnamed names.now i.0 }
 {
-    let at = i.reference().0;
-    names[at] == 0
+    names[i.reference().0] == 0
 }

@@ -184,10 +184,6 @@ turns_begin {t} {p} r = record {
   kept_are = λ j b. absurd (not-suc-le-zero b);
 }
 
-pub turns_all : {t : List ℕ} {p : Pair} {into crossing news kept : List ℕ} {n k m : ℕ} → Turns t p into crossing news kept n k → k ≡ m
-    → Turns t p into crossing news kept n m
-turns_all w e = rw (← e) w
-
 -- nothing else is counted anew
 pub turns_same : (q : Counts) {q' : Counts} {n : ℕ} → q' ≡ with_needed q n → q' ≡ with_needed q q'.needed
 turns_same q e = rw e

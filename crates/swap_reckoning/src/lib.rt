@@ -27,26 +27,14 @@ impl Counts {
     fn with_needed(self, needed: usize) -> Counts
         ensures { result ≡ with_needed self needed }
     {
-        Counts {
-            crossing: self.crossing,
-            standing: self.standing,
-            needed,
-            free: self.free,
-            slots: self.slots,
-        }
+        Counts { needed, ..self }
     }
 
     // The same, with so many slots.
     fn with_slots(self, slots: usize) -> Counts
         ensures { result ≡ with_slots self slots }
     {
-        Counts {
-            crossing: self.crossing,
-            standing: self.standing,
-            needed: self.needed,
-            free: self.free,
-            slots,
-        }
+        Counts { slots, ..self }
     }
 }
 

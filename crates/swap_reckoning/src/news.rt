@@ -1,6 +1,6 @@
 // The new x records: which are asked for, in the order of first need, and the reference X(a, b) that each request settles on.
 ghost use Rattle.std.specs.Prelude.{◌≡◌, ◌+◌, ◌*◌, ◌<◌, ◌≤◌, length, get_or};
-ghost use Rattle.lists.specs.First.{first};
+ghost use Rattle.lists.specs.Found.{found};
 ghost use Rattle.diagrams.specs.Layout.{most_records, InTable};
 ghost use Rattle.swap_records.specs.Listed.{Inside};
 ghost use Rattle.swap_records.specs.Pairs.{PairRoom};
@@ -29,23 +29,20 @@ fn matches(table: &[u8], standing: &[u16], k: usize, a: Reference, b: Reference)
     ensures { result ≡ matches_at table.now standing.now a.0 b.0 k }
 {
     let i = collect::entry(standing, k);
-    let low = i.low(table);
-    let high = i.high(table);
-    (a.0 == low.0) & (b.0 == high.0)
+    (a == i.low(table)) & (b == i.high(table))
 }
 
-fn find_standing(table: &[u8], standing: &[u16], count: usize, a: Reference, b: Reference) -> usize
+fn find_standing(
+    table: &[u8],
+    standing: &[u16],
+    count: usize,
+    a: Reference,
+    b: Reference,
+) -> Option<usize>
     requires { Inside table.now standing.now count }
-    ensures { result ≡ first (matches_at table.now standing.now a.0 b.0) count }
+    ensures { result ≡ found (matches_at table.now standing.now a.0 b.0) count }
 {
-    let mut k = 0;
-    while k < count {
-        if matches(table, standing, k, a, b) {
-            return k;
-        }
-        k += 1;
-    }
-    count
+    (0..count).find(|&k| matches(table, standing, k, a, b))
 }
 
 // Is entry k of the new records the one with low a and high b?
@@ -53,23 +50,15 @@ fn is_new(news: &[u16], k: usize, a: Reference, b: Reference) -> bool
     requires { PairRoom news.now k }
     ensures { result ≡ new_at news.now a.0 b.0 k }
 {
-    let low = pairs::low(news, k);
-    let high = pairs::high(news, k);
-    (a.0 == low.0) & (b.0 == high.0)
+    let (low, high) = pairs::get(news, k);
+    (a == low) & (b == high)
 }
 
-fn find_new(news: &[u16], count: usize, a: Reference, b: Reference) -> usize
+fn find_new(news: &[u16], count: usize, a: Reference, b: Reference) -> Option<usize>
     requires { 2 * count ≤ length news.now }
-    ensures { result ≡ first (new_at news.now a.0 b.0) count }
+    ensures { result ≡ found (new_at news.now a.0 b.0) count }
 {
-    let mut k = 0;
-    while k < count {
-        if is_new(news, k, a, b) {
-            return k;
-        }
-        k += 1;
-    }
-    count
+    (0..count).find(|&k| is_new(news, k, a, b))
 }
 
 // The reference of the slot that new record j goes into. Past the last one there is no room, and nobody uses the number.
@@ -104,26 +93,23 @@ fn note(
     ensures { Noted table.now standing.now slots.now news.old counts a.0 b.0 news.new result }
 {
     let needed = counts.needed;
-    if a.0 == b.0 {
+    if a == b {
         return Settled {
             reference: a,
             needed,
         };
     }
-    let count = counts.standing;
-    let k = find_standing(table, standing, count, a, b);
-    if k < count {
+    if let Some(k) = find_standing(table, standing, counts.standing, a, b) {
         let reference = collect::entry(standing, k).reference();
         return Settled { reference, needed };
     }
-    let j = find_new(news, needed, a, b);
-    let reference = slot(slots, counts.slots, j);
-    if j < needed {
+    if let Some(j) = find_new(news, needed, a, b) {
+        let reference = slot(slots, counts.slots, j);
         return Settled { reference, needed };
     }
     pairs::put(news, needed, a, b);
     Settled {
-        reference,
+        reference: slot(slots, counts.slots, needed),
         needed: needed + 1,
     }
 }
@@ -154,11 +140,9 @@ fn note_both(
     let first = note(table, standing, slots, news, counts, g.f00, g.f10);
     let then = counts.with_needed(first.needed);
     let second = note(table, standing, slots, news, then, g.f01, g.f11);
-    let low = first.reference;
-    let high = second.reference;
     Crossed {
-        low,
-        high,
+        low: first.reference,
+        high: second.reference,
         needed: second.needed,
     }
 }
@@ -200,15 +184,12 @@ pub fn take_turns(
     ensures { Turns table.now pair (slots_of start slots.now) crossing.now news.new kept.new
         result start.crossing }
 {
-    let m = start.crossing;
-    let mut needed: usize = 0;
-    let mut k = 0;
-    while k < m {
+    let mut needed = 0;
+    for k in 0..start.crossing {
         let counts = start.with_needed(needed);
         needed = take_turn(
             table, pair, crossing, standing, slots, news, kept, counts, k,
         );
-        k += 1;
     }
     needed
 }

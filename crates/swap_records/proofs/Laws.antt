@@ -37,9 +37,9 @@ module _ (t : List ℕ) (v : ℕ) where
   pub named_of : {b : Bool} {i : ℕ} (x : ℕ) → b ≡ is_of v (lookup t (ref i)) → i ≡ x - 2 → 2 ≤ x → b ≡ is_of v (lookup t x)
   named_of {b} {i} x p e h = let z : x ≡ ref i = omega arith in rw z p
 
-  pub nothing_of : {b : Bool} (x : ℕ) → b ≡ names_record t x → b ≡ false → false ≡ is_of v (lookup t x)
+  pub nothing_of : {b : Bool} (x : ℕ) → b ≡ names_record t x → b ≡ false → b ≡ is_of v (lookup t x)
   nothing_of x e h =
-      none_of x
+      h ∙ none_of x
       (either_side x 2 (look_ends (at (decode t)) x)
       (λ l. let z : x ≡ ref (x - 2) = omega arith in rw z (past_of t (x - 2) (not_inside t x e h l))))
 
@@ -57,9 +57,6 @@ module _ (t : List ℕ) (x y : ℕ) where
   crossing_at i p q r s u l = rw (p, r, q, u, s) (crossing_by i (is_free t i) refl (omega arith))
 
 -- ---- a grandchild
-
-pub child_side : (t : List ℕ) (i : ℕ) {r : ℕ} (side way : Bool) → side ≡ way → r ≡ child_at t i way → r ≡ child_at t i side
-child_side t i side way e p = rw e p
 
 module _ (t : List ℕ) (y : ℕ) where
   inside : {r v l h : ℕ} → Stored t r v l h → (2 ≤ r) × InTable t (r - 2)

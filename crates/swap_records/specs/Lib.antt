@@ -1,4 +1,5 @@
 pub mod Kinds
+pub mod Sides
 pub mod Listed
 pub mod Grands
 pub mod Pairs

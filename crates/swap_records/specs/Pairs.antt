@@ -12,6 +12,10 @@ use Rattle.diagrams.specs.Node.{Node, free, node}
 abbrev pub PairRoom : List ℕ → ℕ → Type 0
 PairRoom list k = 2 * k + 2 ≤ length list
 
+-- low and high of record k, of 16 bits each
+abbrev pub PairGot : List ℕ → ℕ → ℕ → ℕ → Type 0
+PairGot list k low high = ((low ≡ get_or list (2 * k) 0) × (low < 65536)) × ((high ≡ get_or list (2 * k + 1) 0) × (high < 65536))
+
 -- record k, of the variable v
 abbrev pub pair_at : ℕ → List ℕ → ℕ → Node
 pair_at v list k = node v (get_or list (2 * k) 0) (get_or list (2 * k + 1) 0)

@@ -12,7 +12,7 @@ pub fn entry(list: &[u16], k: usize) -> RecordNumber
     requires { k < length list.now }
     ensures { (result.0 ≡ get_or list.now k 0) × (result.0 < 65536) }
 {
-    RecordNumber(diagrams::wide16(list[k]))
+    RecordNumber(usize::from(list[k]))
 }
 
 pub fn no_entries() -> [u16; MOST_RECORDS]
@@ -27,20 +27,17 @@ pub fn push_if(list: &mut [u16], k: usize, b: bool, i: RecordNumber) -> usize
     ensures { Pushed b i.0 list.old k list.new result }
 {
     list[k] = i.0 as u16;
-    k + diagrams::one(b)
+    k + usize::from(b)
 }
 
 pub fn collect_free(table: &[u8], list: &mut [u16]) -> usize
     requires { RoomFor table.now list.old }
     ensures { FreeListed table.now list.new result }
 {
-    let m = diagrams::count_records(table);
-    let mut k: usize = 0;
-    let mut i = 0;
-    while i < m {
+    let mut k = 0;
+    for i in 0..diagrams::count_records(table) {
         let number = RecordNumber(i);
         k = push_if(list, k, number.is_free(table), number);
-        i += 1;
     }
     k
 }
@@ -68,11 +65,9 @@ fn split_record(
         return at;
     }
     let crosses = super::is_crossing(table, pair, i);
-    let c = push_if(crossing, at.crossing, crosses, i);
-    let s = push_if(standing, at.standing, !crosses, i);
     Split {
-        crossing: c,
-        standing: s,
+        crossing: push_if(crossing, at.crossing, crosses, i),
+        standing: push_if(standing, at.standing, !crosses, i),
     }
 }
 
@@ -80,15 +75,12 @@ pub fn collect_x(table: &[u8], pair: Pair, crossing: &mut [u16], standing: &mut 
     requires { RoomFor table.now crossing.old × RoomFor table.now standing.old }
     ensures { Splits table.now pair crossing.new standing.new result }
 {
-    let m = diagrams::count_records(table);
     let mut at = Split {
         crossing: 0,
         standing: 0,
     };
-    let mut i = 0;
-    while i < m {
+    for i in 0..diagrams::count_records(table) {
         at = split_record(table, pair, RecordNumber(i), crossing, standing, at);
-        i += 1;
     }
     at
 }

@@ -8,6 +8,7 @@ ghost use Rattle.diagrams.specs.Lookup.{lookup};
 ghost use Rattle.swap_rules.specs.Record.{is_of};
 ghost use Rattle.swap_rules.specs.Swap.{grandchild, crosses};
 ghost use Rattle.swap_records.specs.Kinds.{child_at};
+ghost use Rattle.swap_records.specs.Sides.{is_high};
 ghost use Rattle.swap_records.specs.Grands.{Grands};
 
 use diagrams::{RecordNumber, Reference, Variable};
@@ -27,18 +28,14 @@ pub fn is_record_of(table: &[u8], v: Variable, i: RecordNumber) -> bool
     requires { InTable table.now i.0 }
     ensures { result ≡ is_of v.0 (lookup table.now (ref i.0)) }
 {
-    let w = i.variable(table);
-    i.is_used(table) & (w.0 == v.0)
+    i.is_used(table) & (i.variable(table) == v)
 }
 
 // Does x name a used record of v?
 fn names_record_of(table: &[u8], v: Variable, x: Reference) -> bool
     ensures { result ≡ is_of v.0 (lookup table.now x.0) }
 {
-    if x.names_record(table) {
-        return is_record_of(table, v, x.record());
-    }
-    false
+    x.names_record(table) && is_record_of(table, v, x.record())
 }
 
 fn is_crossing(table: &[u8], pair: Pair, i: RecordNumber) -> bool
@@ -52,24 +49,31 @@ fn is_crossing(table: &[u8], pair: Pair, i: RecordNumber) -> bool
         & (names_record_of(table, y, low) | names_record_of(table, y, high))
 }
 
-// The child of record i, on the low side or the high one.
-fn child(table: &[u8], i: RecordNumber, high: bool) -> Reference
+// Which of a record's two children.
+#[derive(Clone, Copy)]
+enum Side {
+    Low,
+    High,
+}
+
+// The child of record i on a side.
+fn child(table: &[u8], i: RecordNumber, side: Side) -> Reference
     requires { InTable table.now i.0 }
-    ensures { (result.0 ≡ child_at table.now i.0 high) × (result.0 < 65536) }
+    ensures { (result.0 ≡ child_at table.now i.0 (is_high side)) × (result.0 < 65536) }
 {
-    if high {
-        return i.high(table);
+    match side {
+        Side::Low => i.low(table),
+        Side::High => i.high(table),
     }
-    i.low(table)
 }
 
 // The grandchild through the child c, likewise.
-fn grandchild(table: &[u8], y: Variable, high: bool, c: Reference) -> Reference
+fn grandchild(table: &[u8], y: Variable, side: Side, c: Reference) -> Reference
     requires { c.0 < 65536 }
-    ensures { (result.0 ≡ grandchild (lookup table.now) y.0 high c.0) × (result.0 < 65536) }
+    ensures { (result.0 ≡ grandchild (lookup table.now) y.0 (is_high side) c.0) × (result.0 < 65536) }
 {
     if names_record_of(table, y, c) {
-        return child(table, c.record(), high);
+        return child(table, c.record(), side);
     }
     c
 }
@@ -89,9 +93,10 @@ pub fn four(table: &[u8], y: Variable, i: RecordNumber) -> Grandchildren
 {
     let low = i.low(table);
     let high = i.high(table);
-    let f00 = grandchild(table, y, false, low);
-    let f01 = grandchild(table, y, true, low);
-    let f10 = grandchild(table, y, false, high);
-    let f11 = grandchild(table, y, true, high);
-    Grandchildren { f00, f01, f10, f11 }
+    Grandchildren {
+        f00: grandchild(table, y, Side::Low, low),
+        f01: grandchild(table, y, Side::High, low),
+        f10: grandchild(table, y, Side::Low, high),
+        f11: grandchild(table, y, Side::High, high),
+    }
 }

@@ -4,13 +4,12 @@
 ghost use Rattle.std.specs.Prelude.{◌≡◌, ◌+◌, ◌*◌, ◌<◌, ◌≤◌, length};
 ghost use Rattle.lists.specs.Fold.{fold};
 ghost use Rattle.diagrams.specs.Layout.{records};
-ghost use Rattle.diagrams.specs.Decode.{eight};
-ghost use Rattle.diagrams.specs.Store.{laid, Fit};
+ghost use Rattle.diagrams.specs.Store.{meant, Fit};
 ghost use Rattle.swap_records.specs.Listed.{Inside};
 ghost use Rattle.swap_records.specs.Pairs.{PairRoom, pair_at};
 ghost use Rattle.swap_result.specs.Image.{stayed, freed, placed, living, Copyable, Fillable, Filled};
 
-use diagrams::{Fields, RecordNumber, Variable};
+use diagrams::{Record, RecordNumber, Variable};
 use swap_reckoning::Counts;
 use swap_records::{Pair, collect, pairs};
 
@@ -20,12 +19,9 @@ fn copy_records(table: &[u8], image: &mut [u8])
     requires { length table.now ≤ length image.old }
     ensures { image.new ≡ fold (stayed table.now) image.old (records table.now) }
 {
-    let m = diagrams::count_records(table);
-    let mut i = 0;
-    while i < m {
-        let f = Fields::of(table, RecordNumber(i));
-        f.store(image, RecordNumber(i));
-        i += 1;
+    for i in 0..diagrams::count_records(table) {
+        let number = RecordNumber(i);
+        Record::of(table, number).store(image, number);
     }
 }
 
@@ -34,10 +30,8 @@ fn free_records(numbers: &[u16], from: usize, count: usize, image: &mut [u8])
     requires { Inside image.old numbers.now (from + count) }
     ensures { image.new ≡ fold (freed from numbers.now) image.old count }
 {
-    let mut k = 0;
-    while k < count {
-        Fields::free().store(image, collect::entry(numbers, from + k));
-        k += 1;
+    for k in 0..count {
+        Record::Free.store(image, collect::entry(numbers, from + k));
     }
 }
 
@@ -46,19 +40,23 @@ fn copy_living(table: &[u8], slots: &[u16], counts: Counts, image: &mut [u8])
     requires { Copyable table.now slots.now counts image.old }
     ensures { image.new ≡ living table.now slots.now counts image.old }
 {
-    let dying = counts.slots - counts.free;
     copy_records(table, image);
-    free_records(slots, counts.free, dying, image);
+    free_records(slots, counts.free, counts.slots - counts.free, image);
 }
 
 // ---- the records that are written over them
 
 // Record k of the pairs, of the variable v.
-fn pair_record(v: Variable, pairs: &[u16], k: usize) -> Fields
+fn pair_record(v: Variable, pairs: &[u16], k: usize) -> Record
     requires { PairRoom pairs.now k × (v.0 < 256) }
-    ensures { (laid result ≡ eight (pair_at v.0 pairs.now k)) × Fit result }
+    ensures { (meant result ≡ pair_at v.0 pairs.now k) × Fit result }
 {
-    Fields::new(v, pairs::low(pairs, k), pairs::high(pairs, k))
+    let (low, high) = pairs::get(pairs, k);
+    Record::Used {
+        variable: v,
+        low,
+        high,
+    }
 }
 
 // Each goes to the record whose number stands at its place in the list.
@@ -66,11 +64,8 @@ fn place_pairs(v: Variable, pairs: &[u16], numbers: &[u16], count: usize, image:
     requires { (Inside image.old numbers.now count × (2 * count ≤ length pairs.now)) × (v.0 < 256) }
     ensures { image.new ≡ fold (placed v.0 pairs.now numbers.now) image.old count }
 {
-    let mut k = 0;
-    while k < count {
-        let f = pair_record(v, pairs, k);
-        f.store(image, collect::entry(numbers, k));
-        k += 1;
+    for k in 0..count {
+        pair_record(v, pairs, k).store(image, collect::entry(numbers, k));
     }
 }
 
