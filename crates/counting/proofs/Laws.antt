@@ -14,7 +14,7 @@ use Rattle.diagrams.specs.Bryant.{Vertex}
 use Rattle.count_shares.specs.Share.{most_counted, share}
 use Rattle.count_levels.specs.Mean.{trips_by, Countable}
 use Rattle.count_levels.specs.declared.Trips.{Trips}
-use Rattle.checks.specs.Stages.{Verdict, clear, refused_where, verdict_of, stopped_by, passed_where, rows}
+use Rattle.checks.specs.Stages.{Verdict, clear, refused_where, verdict_of, passed_where}
 use Rattle.checks.specs.declared.Fault.TheVariants.{TooManyInputs, NoRoot}
 use Rattle.checks.specs.Check.{check_stages}
 use Rattle.checks.specs.Usable.{Usable}
@@ -50,14 +50,14 @@ module _ (t r o : List ℕ) (position : ℕ) where
 
     -- 16, with the code's own n
     module _ {n : ℕ} {b : Bool} {u : Verdict} (long : n ≡ length o) (many : b ≡ ltb most_counted n)
-      (counted : u ≡ refused_where TooManyInputs b n) (few : u ≡ clear) where
+        (counted : u ≡ refused_where TooManyInputs b n) (few : u ≡ clear) where
       pub clear_countable : Countable t o
       clear_countable =
           let small : length o ≤ most_counted = ltb-false most_counted (length o) (rw (← long) (passed_where TooManyInputs n (ltb most_counted n) many counted few)) in
           countable usable small
 
     module _ {m : ℕ} {b : Bool} {u : Verdict} (roots : m ≡ root_count r) (past : b ≡ leb m position)
-      (looked : u ≡ refused_where NoRoot b position) (there : u ≡ clear) where
+        (looked : u ≡ refused_where NoRoot b position) (there : u ≡ clear) where
       pub vertex : {x : ℕ} → x ≡ root_at r position → Vertex Constant (lookup t) x
       vertex is =
           let below : position < m = leb-false m position (passed_where NoRoot position (leb m position) past looked there) in
@@ -67,8 +67,6 @@ module _ (t r o : List ℕ) (position : ℕ) where
       → w.count ≡ trips_by t (length o) x → w.share ≡ share (trips_by t (length o) x) (length o)
       → ◌≡◌ {A = CountAnswer} (Ok w) (count_of t r o position)
   unfolding count_of trips root_value trips_by
-  count_tells {x} {w} e is p q = 
+  count_tells {x} {w} e is p q =
       let told : ◌≡◌ {A = CountAnswer} (counted w.count w.share) (count_after t r o position clear) = rw (p, q, is) refl in
       told ∙ ap (count_after t r o position) e
-
-pub ruleset counting = (stopped_by, count_stops, count_tells, clear_countable, vertex, rows)

@@ -1,5 +1,5 @@
 -- Laws of what specs/Theorems.antt defines.
-use Rattle.std.specs.Prelude.{ℕ, ◌^◌, ◌≤◌, ◌<◌, Bool, true, false, List, [], ◌∷◌, ◌≡◌, eqb, Float, length, Ok, Err}
+use Rattle.std.specs.Prelude.{ℕ, ◌^◌, ◌≤◌, ◌<◌, Bool, false, List, [], ◌∷◌, ◌≡◌, Float, length, Ok, Err}
 use Rattle.std.proofs.Math.Path.{refl, ap, sym}
 use Rattle.std.proofs.Common.{◌∙◌, not-le_of_lt}
 use native.Mathlib.Omega.{arith}
@@ -20,6 +20,7 @@ use Rattle.checks.proofs.Theorems.{refusal_small}
 use Rattle.checks.specs.Usable.{Usable}
 use Rattle.checks.proofs.Usable.{usable_if, passes_all, usable_clear}
 use Rattle.checks.specs.declared.Refusal.{Refusal}
+use Rattle.count_levels.specs.declared.Trips.{Trips}
 use Rattle.checks.specs.declared.Fault.{Fault}
 use Rattle.checks.specs.declared.Fault.TheVariants.{TooManyInputs, NoRoot}
 use Rattle.reading.specs.Read.{no_root, read_of, root_value}
@@ -45,7 +46,9 @@ module _ (t r o : List ℕ) (position : ℕ) where
 
   told : (v : Verdict) {c : ℕ} {s : Float} → count_after t r o position v ≡ counted c s
       → (v ≡ clear) × (c ≡ trips t r o position) × (s ≡ share (trips t r o position) (length o))
-  told (Ok _) e = (refl, cc, cc)
+  told (Ok _) {c} {s} e =
+      let same : ◌≡◌ {A = Trips} (record { count = trips t r o position; share = share (trips t r o position) (length o) }) (record { count = c; share = s }) = cc in
+      (refl, sym (ap (λ (w : Trips). w.count) same), sym (ap (λ (w : Trips). w.share) same))
   told (Err w) e = apart (cc)
 
   clear_counts : verdict_of (count_stages t r o position) ≡ clear → Usable t r o × (length o ≤ most_counted) × (position < root_count r)

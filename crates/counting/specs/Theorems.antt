@@ -1,10 +1,5 @@
 -- What Count answers, and when.
-use Rattle.std.specs.Prelude.{ℕ, ◌^◌, ◌≤◌, ◌<◌, Bool, true, false, List, [], ◌∷◌, ◌≡◌, eqb, Float, length, Ok, Err}
-use Rattle.std.proofs.Math.Path.{refl, ap, sym}
-use Rattle.std.proofs.Common.{◌∙◌, not-le_of_lt}
-use native.Mathlib.Omega.{arith}
-use borrow.Author.Tests.{leb-false, le-ltb, ltb-false}
-use Rattle.std.specs.Float.Ieee.Exact.{HasValue}
+use Rattle.std.specs.Prelude.{ℕ, ◌≤◌, ◌<◌, Bool, false, List, ◌≡◌, Float, length, Ok, Err}
 use Rattle.diagrams.specs.Layout.{root_count}
 use Rattle.count_shares.specs.Share.{most_counted, share}
 use Rattle.checks.specs.Usable.{Usable}

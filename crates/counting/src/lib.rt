@@ -8,12 +8,7 @@ use count_levels::Trips;
 use count_shares::MOST_COUNTED;
 
 // How many combinations and their share of all, or a refusal.
-pub fn count(
-    table: &[u8],
-    roots: &[u8],
-    order: &[u8],
-    position: usize,
-) -> Result<Trips, Refusal>
+pub fn count(table: &[u8], roots: &[u8], order: &[u8], position: usize) -> Result<Trips, Refusal>
     ensures { CountOutcome table.now roots.now order.now position result }
 {
     checks::verdict_of_all(table, roots, order)?;
