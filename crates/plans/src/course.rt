@@ -4,6 +4,7 @@ ghost use Rattle.orders.specs.Arranged.{Arranged};
 use orders::Order;
 
 // Order and target, both of n variables.
+#[derive(Clone, Copy)]
 pub struct Course {
     pub order: Order,
     pub target: Order,

@@ -168,15 +168,10 @@ impl Course {
     }
 
     // With how many of the variables before it v is inverted.
-    #[tactic(auto, unfolding(lists::specs::Count::count))]
     fn inverted_before(&self, v: Variable) -> usize
         ensures { (result ≡ count (λ u. inverted (from self.now) (to self.now) u v.0) v.0) × (result ≤ v.0) }
     {
-        let mut inversions = 0;
-        for u in 0..v.0 {
-            inversions += usize::from(self.inverted(Variable(u), v));
-        }
-        inversions
+        (0..v.0).filter(|&u| self.inverted(Variable(u), v)).count()
     }
 
     // How many inversions there are, each pair counted once.

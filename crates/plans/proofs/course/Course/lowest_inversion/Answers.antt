@@ -8,4 +8,6 @@ use Rattle.plans.proofs.course.Course.lowest_inversion.Goals as goal
 pub returns : goal.returns
 returns c =
     let s = c.args.self.now in
-    lowest_returns s.arranged (found_by_rev_find _ (inverted_at (from s) (to s)) (λ x b q k. search rules) _ _ _ c.rev.ensures.source c.saturating_sub-pairs.ensures c.find.ensures.ran)
+    lowest_returns s.arranged
+    (found_by_rev_find _ (inverted_at (from s) (to s)) (λ x b q k. search rules) _ _ _ c.rev.ensures.source c.saturating_sub-pairs.ensures
+    c.find.ensures.ran)
