@@ -27,7 +27,7 @@ pub fn mix(v: usize, a: usize, b: usize) -> usize
     (v * 2246822519 + a * 2654435761 + b * 3266489917) / 262144 % BUCKETS
 }
 
-// Lent lists, with as many entries as `link` has room for. The last bucket, which `mix` never gives, is for entries that nobody looks up.
+// The two lists, lent: for as many entries as `link` has places. The last bucket, which `mix` never gives, is for entries that nobody looks up.
 #[derive(Drop)]
 pub struct Chains<'a> {
     pub head: &'a mut [u16],
