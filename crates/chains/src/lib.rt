@@ -11,6 +11,13 @@ use diagrams::MOST_RECORDS;
 // Two for each record, so that a chain has half an entry on average in a full table. Heads and links of all records take 49,154 bytes.
 pub const BUCKETS: usize = 2 * MOST_RECORDS;
 
+// No entry in any bucket.
+pub fn no_heads() -> [u16; BUCKETS + 1]
+    ensures { result ≡ replicate (buckets + 1) 0 }
+{
+    [0u16; BUCKETS + 1]
+}
+
 // The bucket of three numbers; of two, with 0 for the first.
 #[tactic(auto, unfolding(crate::specs::Mixed::mixed))]
 pub fn mix(v: usize, a: usize, b: usize) -> usize
@@ -20,43 +27,34 @@ pub fn mix(v: usize, a: usize, b: usize) -> usize
     (v * 2246822519 + a * 2654435761 + b * 3266489917) / 262144 % BUCKETS
 }
 
-// Room for ROOM entries. The last bucket, which `mix` never gives, is for entries that nobody looks up.
+// The two lists, lent: for as many entries as `link` has places. The last bucket, which `mix` never gives, is for entries that nobody looks up.
 #[derive(Drop)]
-pub struct Chains<const ROOM: usize> {
-    head: [u16; BUCKETS + 1],
-    link: [u16; ROOM],
+pub struct Chains<'a> {
+    pub head: &'a mut [u16],
+    pub link: &'a mut [u16],
 }
 
-impl<const ROOM: usize> Chains<ROOM> {
-    // No entry in any bucket.
-    pub fn new() -> Chains<ROOM>
-        ensures { (result.head ≡ replicate (buckets + 1) 0) × (length result.link ≡ ROOM) }
-    {
-        let head = [0u16; BUCKETS + 1];
-        let link = [0u16; ROOM];
-        Chains { head, link }
-    }
-
+impl<'a> Chains<'a> {
     // The newest entry of bucket b.
     pub fn newest(&self, b: usize) -> Option<usize>
-        requires { b < length self.now.head }
-        ensures { result ≡ entry_in (get_or self.now.head b 0) }
+        requires { b < length self.now.head.now }
+        ensures { result ≡ entry_in (get_or self.now.head.now b 0) }
     {
         usize::from(self.head[b]).checked_sub(1)
     }
 
     // The one before entry e in its bucket.
     pub fn before(&self, e: usize) -> Option<usize>
-        requires { e < length self.now.link }
-        ensures { result ≡ entry_in (get_or self.now.link e 0) }
+        requires { e < length self.now.link.now }
+        ensures { result ≡ entry_in (get_or self.now.link.now e 0) }
     {
         usize::from(self.link[e]).checked_sub(1)
     }
 
     // Entry e to the front of bucket b.
     pub fn add(&mut self, b: usize, e: usize)
-        requires { ((b < length self.old.head) × (e < length self.old.link)) × (e < 65535) }
-        ensures { Added self.old.head self.old.link b e self.new.head self.new.link }
+        requires { ((b < length self.old.head.now) × (e < length self.old.link.now)) × (e < 65535) }
+        ensures { Added self.old.head.now self.old.link.now b e self.new.head.now self.new.link.now }
     {
         self.link[e] = self.head[b];
         self.head[b] = (e + 1) as u16;

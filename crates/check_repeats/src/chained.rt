@@ -37,8 +37,8 @@ fn bucket(table: &[u8], i: RecordNumber) -> usize
 }
 
 // The first record before i that is the same. b is its bucket.
-fn first_same(table: &[u8], chains: &Chains<MOST_RECORDS>, b: usize, i: RecordNumber) -> Walked
-    requires { Next table.now i.0 chains.now.head chains.now.link × ((b ≡ bucket_at table.now i.0) × (b < buckets + 1)) }
+fn first_same(table: &[u8], chains: &Chains, b: usize, i: RecordNumber) -> Walked
+    requires { Next table.now i.0 chains.now.head.now chains.now.link.now × ((b ≡ bucket_at table.now i.0) × (b < buckets + 1)) }
     ensures { Walks table.now i.0 result }
 {
     let mut found = None;
@@ -56,8 +56,8 @@ fn first_same(table: &[u8], chains: &Chains<MOST_RECORDS>, b: usize, i: RecordNu
 
 // The same for a used record. A free one repeats none.
 #[tactic(auto, unfolding(crate::specs::Repeats::repeats), using(crate::specs::Searching::found_some))]
-fn look(table: &[u8], chains: &Chains<MOST_RECORDS>, b: usize, i: RecordNumber) -> Walked
-    requires { Next table.now i.0 chains.now.head chains.now.link × ((b ≡ bucket_at table.now i.0) × (b < buckets + 1)) }
+fn look(table: &[u8], chains: &Chains, b: usize, i: RecordNumber) -> Walked
+    requires { Next table.now i.0 chains.now.head.now chains.now.link.now × ((b ≡ bucket_at table.now i.0) × (b < buckets + 1)) }
     ensures { Looks table.now i.0 result }
 {
     if i.is_used(table) {
@@ -70,9 +70,9 @@ fn look(table: &[u8], chains: &Chains<MOST_RECORDS>, b: usize, i: RecordNumber) 
 }
 
 // Record i looks, and goes to the front of its bucket.
-fn enter(table: &[u8], chains: &mut Chains<MOST_RECORDS>, i: RecordNumber) -> Walked
-    requires { Next table.now i.0 chains.old.head chains.old.link }
-    ensures { Enters table.now i.0 result chains.new.head chains.new.link }
+fn enter(table: &[u8], chains: &mut Chains, i: RecordNumber) -> Walked
+    requires { Next table.now i.0 chains.old.head.now chains.old.link.now }
+    ensures { Enters table.now i.0 result chains.new.head.now chains.new.link.now }
 {
     let b = bucket(table, i);
     let walked = look(table, chains, b, i);
@@ -85,7 +85,13 @@ pub fn search(table: &[u8]) -> Result<Option<usize>, Crowded>
     requires { records table.now ≤ most_records }
     ensures { IfOk result (λ place. place ≡ found (repeats table.now) (records table.now)) }
 {
-    let mut chains = Chains::<MOST_RECORDS>::new();
+    // Two lists on the stack, not one struct: in their places lie the two of the passes, once the chains are left.
+    let mut head = chains::no_heads();
+    let mut link = [0u16; MOST_RECORDS];
+    let mut chains = Chains {
+        head: &mut head,
+        link: &mut link,
+    };
     let mut steps = 0;
     for i in 0..diagrams::count_records(table) {
         let walked = enter(table, &mut chains, RecordNumber(i));

@@ -16,13 +16,18 @@ const SLOTS: usize = 2 * MOST_RECORDS;
 // A key has 40 bits: the first pass goes by the 13 that lead, for which there are slots, each of the others by one of these.
 const REST: usize = 27;
 
-// Variable, low and high of record i as one number.
-fn key(table: &[u8], i: usize) -> usize
-    requires { InTable table.now i }
-    ensures { (result ≡ key_at table.now i) × (result < 2 ^ 40) }
+// Bit k of the key of record i: one field is read, and no more.
+fn bit(table: &[u8], i: RecordNumber, k: usize) -> usize
+    requires { InTable table.now i.0 × (k < rest) }
+    ensures { (result ≡ bit_at table.now k i.0) × (result < 2) }
 {
-    let record = RecordNumber(i);
-    record.variable(table).0 + 256 * (record.low(table).0 + 65536 * record.high(table).0)
+    if k < 8 {
+        return (i.variable(table).0 >> k) % 2;
+    }
+    if k < 24 {
+        return (i.low(table).0 >> (k - 8)) % 2;
+    }
+    (i.high(table).0 >> (k - 24)) % 2
 }
 
 // What stands in a slot once record i has come to it: what stood there, or i plus 1 where nothing did.
@@ -64,16 +69,16 @@ fn lead(table: &[u8], i: usize) -> usize
     requires { InTable table.now i }
     ensures { (result ≡ part table.now rest i) × (result < slots) }
 {
-    key(table, i) >> REST
+    let i = RecordNumber(i);
+    (i.variable(table).0 + 256 * (i.low(table).0 + 65536 * i.high(table).0)) >> REST
 }
 
 // The slot of record i by its class so far and its bit k.
-#[tactic(auto, unfolding(crate::specs::Keys::part, crate::specs::Keys::bit_at))]
 fn split(table: &[u8], i: usize, so_far: usize, k: usize) -> usize
     requires { (InTable table.now i × (so_far < most_records)) × (k < rest) }
     ensures { (result ≡ 2 * so_far + bit_at table.now k i) × (result < slots) }
 {
-    2 * so_far + (key(table, i) >> k) % 2
+    2 * so_far + bit(table, RecordNumber(i), k)
 }
 
 // The classes where there is a place for each record and no more.

@@ -1,4 +1,6 @@
-use Rattle.std.proofs.Common.{arith, ◌∙◌}
+use Rattle.std.proofs.Common.{ℕ, arith, ◌∙◌}
+use Rattle.std.proofs.lemmas.List.{length-replicate}
+use Rattle.diagrams.specs.Layout.{most_records}
 use Rattle.lists.specs.First.{passed_none}
 use Rattle.lists.specs.Found.{seek_goes, seek_finds, seek_ends}
 use Rattle.chains.specs.Chains.{chained_none}
@@ -7,7 +9,7 @@ use Rattle.check_repeats.proofs.chained.search.Goals as goal
 pub loop-i-init : goal.loop-i-init
 loop-i-init c = record {
   passed = passed_none;
-  chained = chained_none c.new-chains.ensures.0 c.new-chains.ensures.1;
+  chained = chained_none c.no_heads-head.ensures (length-replicate {A = ℕ} most_records 0);
   few_steps = omega arith;
 }
 
