@@ -1,10 +1,10 @@
 -- The buffers of the files, and what came of reading those of the store and its target.
-use Rattle.std.specs.Prelude.{ℕ, ◌+◌, ◌*◌, ◌≤◌, List, [], ◌∷◌, ◌≡◌, length}
+use Rattle.std.specs.Prelude.{ℕ, ◌+◌, ◌*◌, ◌≤◌, List, [], ◌∷◌, ◌≡◌, length, Result, IfOk}
 use Rattle.diagrams.specs.Layout.{record_size, root_size, most_records, most_roots}
 use Rattle.orders.specs.Permutation.{ceiling}
 use Rattle.labels.specs.Label.{label_size, most_labels}
-use Rattle.folder.specs.declared.Files.{Files}
-use Rattle.folder.specs.declared.Files.TheVariants.{Read}
+use Rattle.files.specs.declared.Unreadable.{Unreadable}
+use Rattle.folder.specs.declared.Sizes.{Sizes}
 
 -- the buffers of the store and its target have one byte more than each file may have: a file over its limit fills it, and by its length alone is refusal 1
 pub record Buffers (t r o g : List ℕ) : Type 0 where
@@ -22,11 +22,11 @@ pub record LabelBuffer (l : List ℕ) : Type 0 where
   pub long : length l ≡ label_size * most_labels + 1
 
 -- so many bytes stand in each of the four
-pub record Filled (table roots order target : ℕ) (t r o g : List ℕ) : Type 0 where
-  pub table_in : table ≤ length t
-  pub roots_in : roots ≤ length r
-  pub order_in : order ≤ length o
-  pub target_in : target ≤ length g
+pub record Filled (sizes : Sizes) (t r o g : List ℕ) : Type 0 where
+  pub table_in : sizes.table ≤ length t
+  pub roots_in : sizes.roots ≤ length r
+  pub order_in : sizes.order ≤ length o
+  pub target_in : sizes.target ≤ length g
 
-pub record AllWithin (f : Files) (t r o g : List ℕ) : Type 0 where
-  pub read : (a b c d : ℕ) → f ≡ Read a b c d → Filled a b c d t r o g
+abbrev pub AllWithin : Result Sizes Unreadable → List ℕ → List ℕ → List ℕ → List ℕ → Type 0
+AllWithin read t r o g = IfOk read (λ sizes. Filled sizes t r o g)

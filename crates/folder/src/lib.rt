@@ -7,21 +7,18 @@ ghost use Rattle.files.specs.File.{Within};
 ghost use Rattle.folder.specs.Buffers.{Buffers, plan_buffer, LabelBuffer, AllWithin};
 
 use diagrams::{MOST_RECORDS, MOST_ROOTS, RECORD_SIZE, ROOT_SIZE};
-use files::File;
+use files::Unreadable;
 use labels::{LABEL_SIZE, MOST_LABELS};
 use orders::Order;
 use std::rt;
 
-// How many bytes each file has, or that one of them can't be read.
+// How many bytes each file of the store and its target has.
 #[derive(Clone, Copy)]
-enum Files {
-    Read {
-        table: usize,
-        roots: usize,
-        order: usize,
-        target: usize,
-    },
-    Unreadable,
+struct Sizes {
+    table: usize,
+    roots: usize,
+    order: usize,
+    target: usize,
 }
 
 // The store and its target. A missing file counts as empty.
@@ -31,32 +28,20 @@ fn load_all<R: rt::Files + Eprint>(
     roots: &mut [u8],
     order: &mut [u8],
     target: &mut [u8],
-) -> Files
+) -> Result<Sizes, Unreadable>
     requires { Buffers table.old roots.old order.old target.old }
     ensures { AllWithin result table.new roots.new order.new target.new }
 {
-    let File::Bytes(table_bytes) = files::load(rt, "trip.nod", table, 0) else {
-        return Files::Unreadable;
-    };
-    let File::Bytes(root_bytes) = files::load(rt, "trip.rts", roots, 0) else {
-        return Files::Unreadable;
-    };
-    let File::Bytes(order_bytes) = files::load(rt, "trip.ord", order, 0) else {
-        return Files::Unreadable;
-    };
-    let File::Bytes(target_bytes) = files::load(rt, "trip.tgt", target, 0) else {
-        return Files::Unreadable;
-    };
-    Files::Read {
-        table: table_bytes,
-        roots: root_bytes,
-        order: order_bytes,
-        target: target_bytes,
-    }
+    Ok(Sizes {
+        table: files::load(rt, "trip.nod", table, 0)?,
+        roots: files::load(rt, "trip.rts", roots, 0)?,
+        order: files::load(rt, "trip.ord", order, 0)?,
+        target: files::load(rt, "trip.tgt", target, 0)?,
+    })
 }
 
 // A missing trip.pln counts as one byte: 0, for Bring Up.
-fn load_plan<R: rt::Files + Eprint>(rt: &R, plan: &mut [u8]) -> File
+fn load_plan<R: rt::Files + Eprint>(rt: &R, plan: &mut [u8]) -> Result<usize, Unreadable>
     requires { plan.old ≡ plan_buffer }
     ensures { Within result plan.new }
 {
@@ -64,7 +49,11 @@ fn load_plan<R: rt::Files + Eprint>(rt: &R, plan: &mut [u8]) -> File
 }
 
 // A missing file of labels counts as an empty list.
-fn load_labels<R: rt::Files + Eprint>(rt: &R, path: &str, list: &mut [u8]) -> File
+fn load_labels<R: rt::Files + Eprint>(
+    rt: &R,
+    path: &str,
+    list: &mut [u8],
+) -> Result<usize, Unreadable>
     requires { LabelBuffer list.old }
     ensures { Within result list.new }
 {
@@ -99,17 +88,13 @@ fn print_labelled<R: rt::Files + Print + Eprint>(
     order: &mut [u8],
     target: &[u8],
     plan: &[u8],
-)
+) -> Result<(), Unreadable>
     requires { Held table.old roots.now order.old }
 {
     let mut site = [0u8; LABEL_SIZE * MOST_LABELS + 1];
-    let File::Bytes(s) = load_labels(rt, "trip.lbs", &mut site) else {
-        return;
-    };
+    let s = load_labels(rt, "trip.lbs", &mut site)?;
     let mut factory = [0u8; LABEL_SIZE * MOST_LABELS + 1];
-    let File::Bytes(f) = load_labels(rt, "trip.lbf", &mut factory) else {
-        return;
-    };
+    let f = load_labels(rt, "trip.lbf", &mut factory)?;
     print(
         rt,
         table,
@@ -120,33 +105,29 @@ fn print_labelled<R: rt::Files + Print + Eprint>(
         &site[..s],
         &factory[..f],
     );
+    Ok(())
 }
 
-// All of the program. Each buffer has one byte more than its file may have, so that a file over its limit is known by its length.
-pub fn bring_to_target<R: rt::Files + Print + Eprint>(rt: &R) {
+// Each buffer has one byte more than its file may have, so that a file over its limit is known by its length.
+fn load_and_print<R: rt::Files + Print + Eprint>(rt: &R) -> Result<(), Unreadable> {
     let mut table = [0u8; RECORD_SIZE * MOST_RECORDS + 1];
     let mut roots = [0u8; ROOT_SIZE * MOST_ROOTS + 1];
     let mut order = [0u8; Order::CEILING + 1];
     let mut target = [0u8; Order::CEILING + 1];
-    let Files::Read {
-        table: t,
-        roots: r,
-        order: n,
-        target: m,
-    } = load_all(rt, &mut table, &mut roots, &mut order, &mut target)
-    else {
-        return;
-    };
+    let sizes = load_all(rt, &mut table, &mut roots, &mut order, &mut target)?;
     let mut plan = [0u8; 2];
-    let File::Bytes(p) = load_plan(rt, &mut plan) else {
-        return;
-    };
+    let p = load_plan(rt, &mut plan)?;
     print_labelled(
         rt,
-        &mut table[..t],
-        &roots[..r],
-        &mut order[..n],
-        &target[..m],
+        &mut table[..sizes.table],
+        &roots[..sizes.roots],
+        &mut order[..sizes.order],
+        &target[..sizes.target],
         &plan[..p],
-    );
+    )
+}
+
+// All of the program. Where a file can't be read, standard error was told why, and nothing is printed.
+pub fn bring_to_target<R: rt::Files + Print + Eprint>(rt: &R) {
+    let _ = load_and_print(rt);
 }
