@@ -8,13 +8,12 @@ ghost use Rattle.check_equal.specs.Equal.{low_is_high};
 
 use diagrams::RecordNumber;
 
+#[tactic(auto, unfolding(crate::specs::Equal::low_is_high))]
 fn is_low_high(table: &[u8], i: RecordNumber) -> bool
     requires { InTable table.now i.0 }
     ensures { result ≡ low_is_high table.now i.0 }
 {
-    let low = i.low(table);
-    let high = i.high(table);
-    i.is_used(table) & (low.0 == high.0)
+    i.is_used(table) && i.low(table) == i.high(table)
 }
 
 pub fn first_low_is_high(table: &[u8]) -> Option<usize>
