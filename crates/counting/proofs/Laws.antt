@@ -53,7 +53,8 @@ module _ (t r o : List ℕ) (position : ℕ) where
         (counted : u ≡ refused_where TooManyInputs b n) (few : u ≡ clear) where
       pub clear_countable : Countable t o
       clear_countable =
-          let small : length o ≤ most_counted = ltb-false most_counted (length o) (rw (← long) (passed_where TooManyInputs n (ltb most_counted n) many counted few)) in
+          let passed = passed_where TooManyInputs n (ltb most_counted n) many counted few in
+          let small : length o ≤ most_counted = ltb-false most_counted (length o) (rw (← long) passed) in
           countable usable small
 
     module _ {m : ℕ} {b : Bool} {u : Verdict} (roots : m ≡ root_count r) (past : b ≡ leb m position)

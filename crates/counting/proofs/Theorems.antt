@@ -47,7 +47,8 @@ module _ (t r o : List ℕ) (position : ℕ) where
   told : (v : Verdict) {c : ℕ} {s : Float} → count_after t r o position v ≡ counted c s
       → (v ≡ clear) × (c ≡ trips t r o position) × (s ≡ share (trips t r o position) (length o))
   told (Ok _) {c} {s} e =
-      let same : ◌≡◌ {A = Trips} (record { count = trips t r o position; share = share (trips t r o position) (length o) }) (record { count = c; share = s }) = cc in
+      let same : ◌≡◌ {A = Trips} (record { count = trips t r o position; share = share (trips t r o position) (length o) })
+      (record { count = c; share = s }) = cc in
       (refl, sym (ap (λ (w : Trips). w.count) same), sym (ap (λ (w : Trips). w.share) same))
   told (Err w) e = apart (cc)
 

@@ -16,7 +16,8 @@ abbrev pub too_many_inputs : List ℕ → Bool
 too_many_inputs o = ltb most_counted (length o)
 
 unfoldable pub count_stages : List ℕ → List ℕ → List ℕ → ℕ → List Stage
-count_stages t r o position = check_stages t r o ++ (stage_at TooManyInputs (length o) (too_many_inputs o) ∷ stage_at NoRoot position (no_root r position) ∷ [])
+count_stages t r o position =
+    check_stages t r o ++ (stage_at TooManyInputs (length o) (too_many_inputs o) ∷ stage_at NoRoot position (no_root r position) ∷ [])
 
 -- under how many combinations of n inputs the value of the root, as Read computes it, is 1
 unfoldable pub trips : List ℕ → List ℕ → List ℕ → ℕ → ℕ

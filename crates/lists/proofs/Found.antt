@@ -19,7 +19,8 @@ pub found_by_find : {F : Type 0} {g : Mut F (Bor ℕ × Unit {0}) Bool} (s u : R
         × MatchOption r ⊤ (λ x. (h : F) × CalledAt g j x true h)
     → r ≡ found p n
 found_by_find s u f r {m} {n} p calls e z ran =
-    told r (first_from_Range s u f r (λ x. p x ≡ true) (λ x. p x ≡ false) ran (λ x q k. sym (calls x true q k).1) (λ x q k. ((calls x false q k).0, sym (calls x false q k).1)))
+    told r (first_from_Range s u f r (λ x. p x ≡ true) (λ x. p x ≡ false) ran
+    (λ x q k. sym (calls x true q k).1) (λ x q k. ((calls x false q k).0, sym (calls x false q k).1)))
   where
     told : (o : Option ℕ) → MatchOption o ((k : ℕ) → s.start ≤ k → k < s.end → p k ≡ false)
         (λ i. (s.start ≤ i) × (i < s.end) × (p i ≡ true) × ((k : ℕ) → s.start ≤ k → k < i → p k ≡ false)) → o ≡ found p n

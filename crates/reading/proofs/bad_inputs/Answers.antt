@@ -13,4 +13,5 @@ returns-then-inputs-order c = rw (ne_eqb _ _ c.if-inputs-order.true) refl
 pub returns-else-inputs-order : goal.returns-else-inputs-order
 returns-else-inputs-order c =
     inputs_told _ _ c.if-inputs-order.false
-    (any_from_yields_List {all = c.args.inputs.now} (λ x. ltb 1 x) _ _ _ c.any.ensures.ran (YieldsList-from_slice _ (search rules)) (λ x b q k. search (rules, tests)))
+    (any_from_yields_List {all = c.args.inputs.now} (λ x. ltb 1 x) _ _ _ c.any.ensures.ran
+    (YieldsList-from_slice _ (search rules)) (λ x b q k. search (rules, tests)))
