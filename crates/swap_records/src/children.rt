@@ -1,5 +1,6 @@
 // Low and high of a record that a swap makes or changes, in 16 bits each.
 ghost use Rattle.std.specs.Prelude.{◌≡◌, ◌<◌};
+ghost use Rattle.swap_records.specs.Children.{children};
 
 use diagrams::Reference;
 
@@ -12,7 +13,7 @@ pub struct Children {
 impl Children {
     pub fn new(low: Reference, high: Reference) -> Children
         requires { (low.0 < 65536) × (high.0 < 65536) }
-        ensures { (result.low ≡ low.0) × (result.high ≡ high.0) }
+        ensures { result ≡ children low.0 high.0 }
     {
         Children {
             low: low.0 as u16,
