@@ -31,6 +31,12 @@ impl<T: Copy, const N: usize> FixedList<T, N> {
         }
     }
 
+    pub fn len(&self) -> usize
+        ensures { result ≡ length self.now }
+    {
+        self.len
+    }
+
     pub fn push(&mut self, x: T)
         requires { length self.old < N }
         ensures { self.new ≡ self.old ++ (x ∷ []) }
