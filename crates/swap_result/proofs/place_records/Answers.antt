@@ -1,11 +1,8 @@
 use Rattle.swap_result.proofs.Laws.{storing}
-use Rattle.swap_result.proofs.place_pairs.Goals as goal
+use Rattle.swap_result.proofs.place_records.Goals as goal
 
 pub loop-k-init : goal.loop-k-init
 loop-k-init c = search storing
-
-pub entry-requires : goal.entry-requires
-entry-requires c = search storing
 
 pub store-requires : goal.store-requires
 store-requires c = search storing
