@@ -34,7 +34,7 @@ impl<T: Copy, const N: usize> FixedList<T, N> {
     pub fn len(&self) -> usize
         ensures { result ≡ length self.now }
     {
-        self.len
+        self.as_slice().len()
     }
 
     pub fn push(&mut self, x: T)
