@@ -4,4 +4,5 @@ use Rattle.swap_reckoning.specs.Searching.{new_at}
 use Rattle.swap_reckoning.proofs.news.find_new.Goals as goal
 
 pub returns : goal.returns
-returns c = found_by_find _ _ _ _ (new_at c.args.news.now c.args.a.0 c.args.b.0) (λ x b q k. search rules) refl refl c.find.ensures.ran
+unfolding new_at
+returns c = found_by_find _ _ _ _ (new_at c.args.news.now c.args.wanted) (λ x b q k. search rules) refl refl c.find.ensures.ran
