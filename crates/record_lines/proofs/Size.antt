@@ -34,7 +34,8 @@ module _ (label : ℕ → List ℕ) (m : ℕ) (most : (v : ℕ) → length (labe
   label_short : (x : Node) → Short (label_text label x) (m + 1)
   unfolding label_text label_line
   label_short free = short zero-le
-  label_short (node v l h) = either_short (eqb (length (label v)) 0) (short zero-le) (both_short (before_zero_short (label v) m (most v)) (word_short (bytes "\n")))
+  label_short (node v l h) =
+      either_short (eqb (length (label v)) 0) (short zero-le) (both_short (before_zero_short (label v) m (most v)) (word_short (bytes "\n")))
 
   pub record_text_short : (t : List ℕ) (i : ℕ) → Bytes t → i < 10000 → Short (record_text label t i) (21 + (m + 1))
   unfolding record_text
