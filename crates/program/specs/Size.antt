@@ -1,6 +1,6 @@
 -- The text fits into the list that is lent for it.
 use Rattle.std.specs.Prelude.{ℕ, ◌≤◌, List, ◌≡◌, length}
-use Rattle.std.proofs.Common.{zero-le, arith, lit≤}
+use Rattle.std.proofs.Common.{zero-le, ap, arith, lit≤}
 use Rattle.labels.specs.Label.{text_size, text_of}
 use Rattle.labels.proofs.Texts.{text_short}
 use Rattle.swap_ways.specs.declared.Lack.{Lack}
@@ -8,6 +8,7 @@ use Rattle.swap_ways.specs.declared.Short as swap
 use Rattle.runs.specs.declared.RunAnswer.{RunAnswer}
 use Rattle.runs.specs.declared.RunAnswer.TheVariants.{Done, NoRoom, LogShort, Paused, Refused}
 use Rattle.texts.specs.Text.{bytes}
+use Rattle.texts.specs.declared.Page.{Page}
 use Rattle.texts.specs.Put.{Space}
 use Rattle.texts.specs.Short.{Short, short, both_short, shorter, either_short, word_short, numbered_any}
 use Rattle.listing.specs.Text.{listing}
@@ -50,12 +51,13 @@ store_short : (a : RunAnswer) (label : ℕ → List ℕ) (t r o : List ℕ) (m :
 unfolding store_text
 store_short a label t r o m h = either_short (is_refused a) (short zero-le) h
 
--- t and o are what a run left in the buffers, as long as they were before
-pub text_space : (plan : ℕ) (a : RunAnswer) (s f t r o : List ℕ) {t₀ o₀ out : List ℕ} → Held t₀ r o₀ → most_text ≤ length out
-    → length t ≡ length t₀ → length o ≡ length o₀ → Bytes t → Bytes r → Bytes o → Space out 0 (printed plan a (text_of s f) t r o)
+-- t and o are what a run left in the buffers, as long as they were before; the page is empty
+pub text_space : (plan : ℕ) (a : RunAnswer) (s f t r o : List ℕ) {t₀ o₀ out : List ℕ} {page : Page} → Held t₀ r o₀ → most_text ≤ length out
+    → length t ≡ length t₀ → length o ≡ length o₀ → Bytes t → Bytes r → Bytes o → page.len ≡ 0 → page.bytes.now ≡ out
+    → Space page (printed plan a (text_of s f) t r o)
 unfolding printed answer_line
-text_space plan a s f t r o h m p q bt br bo =
+text_space plan a s f t r o h m p q bt br bo none same =
     let label = text_of s f in
     let store = store_short a label t r o _ (listing_short label text_size t r o (text_short s f) bt br bo (omega (arith, h.table))) in
     let whole = both_short (both_short (plan_short a plan) (both_short (answer_short a) (word_short (bytes "\n")))) store in
-    record { fits = omega (arith, whole.most, h.table, h.roots, h.order) }
+    record { fits = omega (arith, whole.most, h.table, h.roots, h.order, ap length same) }
