@@ -1,12 +1,12 @@
 -- The text fits into the list that is lent for it.
-use Rattle.std.specs.Prelude.{ℕ, ◌≤◌, List, ◌≡◌, length}
+use Rattle.std.specs.Prelude.{ℕ, ◌≤◌, List, ◌≡◌, length, Ok, Err}
 use Rattle.std.proofs.Common.{zero-le, ap, arith, lit≤}
 use Rattle.labels.specs.Label.{text_size, text_of}
 use Rattle.labels.proofs.Texts.{text_short}
 use Rattle.swap_ways.specs.declared.Lack.{Lack}
 use Rattle.swap_ways.specs.declared.Short as swap
-use Rattle.runs.specs.declared.RunAnswer.{RunAnswer}
-use Rattle.runs.specs.declared.RunAnswer.TheVariants.{Done, NoRoom, LogShort, Paused, Refused}
+use Rattle.runs.specs.Run.{RunAnswer}
+use Rattle.runs.specs.declared.Slice.TheVariants.{Done, NoRoom, LogShort, Paused}
 use Rattle.texts.specs.Text.{bytes}
 use Rattle.texts.specs.declared.Page.{Page}
 use Rattle.texts.specs.Put.{Space}
@@ -14,7 +14,7 @@ use Rattle.texts.specs.Short.{Short, short, both_short, shorter, either_short, w
 use Rattle.listing.specs.Text.{listing}
 use Rattle.diagrams.specs.Bytes.{Bytes}
 use Rattle.listing.specs.Size.{listing_short}
-use Rattle.program.specs.Text.{swaps_text, lack_text, short_text, answer_text, answer_line, is_refused, plan_line, plan_text, store_text, printed}
+use Rattle.program.specs.Text.{swaps_text, lack_text, short_text, slice_text, refusal_text, answer_text, answer_line, is_refused, plan_line, plan_text, store_text, printed}
 use Rattle.program.specs.Program.{most_text, Held}
 
 -- ---- the line of the plan: at most 27 bytes
@@ -38,12 +38,12 @@ unfolding short_text
 held_short l = both_short (both_short (numbered_any (bytes " level ") _) (numbered_any (bytes " needed ") _)) (numbered_any (bytes " held ") _)
 
 answer_short : (a : RunAnswer) → Short (answer_text a) 148
-unfolding answer_text
-answer_short (Done s l) = shorter 148 (swaps_short (bytes "done swaps ") s l (short (lit≤ tt))) tt
-answer_short (NoRoom s l lack) = both_short (swaps_short (bytes "no room swaps ") s l (short (lit≤ tt))) (lack_short lack)
-answer_short (LogShort s l log) = both_short (swaps_short (bytes "log short swaps ") s l (short (lit≤ tt))) (held_short log)
-answer_short (Paused s l) = shorter 148 (swaps_short (bytes "paused swaps ") s l (short (lit≤ tt))) tt
-answer_short (Refused w) = shorter 148 (both_short (numbered_any (bytes "refused ") _) (numbered_any (bytes " place ") _)) tt
+unfolding answer_text slice_text refusal_text
+answer_short (Ok (Done s l)) = shorter 148 (swaps_short (bytes "done swaps ") s l (short (lit≤ tt))) tt
+answer_short (Ok (NoRoom s l lack)) = both_short (swaps_short (bytes "no room swaps ") s l (short (lit≤ tt))) (lack_short lack)
+answer_short (Ok (LogShort s l log)) = both_short (swaps_short (bytes "log short swaps ") s l (short (lit≤ tt))) (held_short log)
+answer_short (Ok (Paused s l)) = shorter 148 (swaps_short (bytes "paused swaps ") s l (short (lit≤ tt))) tt
+answer_short (Err w) = shorter 148 (both_short (numbered_any (bytes "refused ") _) (numbered_any (bytes " place ") _)) tt
 
 -- ---- the whole text
 

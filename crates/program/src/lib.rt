@@ -5,16 +5,17 @@
 ghost use Rattle.std.specs.Prelude.{◌≡◌, ◌≤◌, length};
 ghost use Rattle.labels.specs.Lists.{texts};
 ghost use Rattle.texts.specs.Put.{Put, Space};
-ghost use Rattle.program.specs.Text.{swaps_text, lack_text, short_text, answer_text, answer_line, is_refused, plan_line, plan_text, store_text, printed};
+ghost use Rattle.program.specs.Text.{swaps_text, lack_text, short_text, slice_text, refusal_text, answer_text, answer_line};
+ghost use Rattle.program.specs.Text.{plan_line, plan_text, store_text, printed};
 ghost use Rattle.program.specs.Program.{Prints, most_text, Held};
-ghost use Rattle.runs.specs.declared.RunAnswer.TheVariants.{NoRoom, LogShort, Refused};
+ghost use Rattle.runs.specs.declared.Slice.TheVariants.{NoRoom, LogShort};
 
 use checks::Refusal;
 use diagrams::{MOST_RECORDS, MOST_ROOTS};
 use labels::{Lists, TEXT_SIZE};
 use listing::Store;
 use orders::Order;
-use runs::RunAnswer;
+use runs::Slice;
 use swap_ways::{Lack, Short};
 use texts::Page;
 
@@ -47,10 +48,10 @@ fn put_lack(page: &mut Page, lack: Lack)
     page.put_numbered(b" free ", lack.free);
 }
 
-#[tactic(auto, using(texts::specs::Put::putting), unfolding(crate::specs::Text::answer_text))]
+#[tactic(auto, using(texts::specs::Put::putting), unfolding(crate::specs::Text::slice_text))]
 fn put_no_room(page: &mut Page, swaps: usize, left: usize, lack: Lack)
-    requires { Space page.old (answer_text (NoRoom swaps left lack)) }
-    ensures { Put page.old (answer_text (NoRoom swaps left lack)) page.new }
+    requires { Space page.old (slice_text (NoRoom swaps left lack)) }
+    ensures { Put page.old (slice_text (NoRoom swaps left lack)) page.new }
 {
     put_swaps(page, b"no room swaps ", swaps, left);
     put_lack(page, lack);
@@ -67,57 +68,55 @@ fn put_short(page: &mut Page, short: Short)
     page.put_numbered(b" held ", short.held);
 }
 
-#[tactic(auto, using(texts::specs::Put::putting), unfolding(crate::specs::Text::answer_text))]
+#[tactic(auto, using(texts::specs::Put::putting), unfolding(crate::specs::Text::slice_text))]
 fn put_log_short(page: &mut Page, swaps: usize, left: usize, short: Short)
-    requires { Space page.old (answer_text (LogShort swaps left short)) }
-    ensures { Put page.old (answer_text (LogShort swaps left short)) page.new }
+    requires { Space page.old (slice_text (LogShort swaps left short)) }
+    ensures { Put page.old (slice_text (LogShort swaps left short)) page.new }
 {
     put_swaps(page, b"log short swaps ", swaps, left);
     put_short(page, short);
 }
 
-#[tactic(auto, using(texts::specs::Put::putting), unfolding(crate::specs::Text::answer_text))]
-fn put_refusal(page: &mut Page, refusal: Refusal)
-    requires { Space page.old (answer_text (Refused refusal)) }
-    ensures { Put page.old (answer_text (Refused refusal)) page.new }
+#[tactic(auto, using(crate::proofs::Laws::slicing), unfolding(crate::specs::Text::slice_text))]
+fn put_slice(page: &mut Page, slice: Slice)
+    requires { Space page.old (slice_text slice) }
+    ensures { Put page.old (slice_text slice) page.new }
 {
-    page.put_numbered(b"refused ", refusal.number as usize);
+    match slice {
+        Slice::Done { swaps, left } => put_swaps(page, b"done swaps ", swaps, left),
+        Slice::NoRoom { swaps, left, lack } => put_no_room(page, swaps, left, lack),
+        Slice::LogShort { swaps, left, short } => put_log_short(page, swaps, left, short),
+        Slice::Paused { swaps, left } => put_swaps(page, b"paused swaps ", swaps, left),
+    }
+}
+
+#[tactic(auto, using(texts::specs::Put::putting), unfolding(crate::specs::Text::refusal_text))]
+fn put_refusal(page: &mut Page, refusal: Refusal)
+    requires { Space page.old (refusal_text refusal) }
+    ensures { Put page.old (refusal_text refusal) page.new }
+{
+    page.put_numbered(b"refused ", usize::from(u8::from(refusal.fault)));
     page.put_numbered(b" place ", refusal.place);
 }
 
 #[tactic(auto, using(crate::proofs::Laws::answering), unfolding(crate::specs::Text::answer_text))]
-fn put_answer(page: &mut Page, answer: RunAnswer)
+fn put_answer(page: &mut Page, answer: Result<Slice, Refusal>)
     requires { Space page.old (answer_text answer) }
     ensures { Put page.old (answer_text answer) page.new }
 {
     match answer {
-        RunAnswer::Done { swaps, left } => put_swaps(page, b"done swaps ", swaps, left),
-        RunAnswer::NoRoom { swaps, left, lack } => put_no_room(page, swaps, left, lack),
-        RunAnswer::LogShort { swaps, left, short } => put_log_short(page, swaps, left, short),
-        RunAnswer::Paused { swaps, left } => put_swaps(page, b"paused swaps ", swaps, left),
-        RunAnswer::Refused(refusal) => put_refusal(page, refusal),
+        Ok(slice) => put_slice(page, slice),
+        Err(refusal) => put_refusal(page, refusal),
     }
 }
 
 #[tactic(auto, using(texts::specs::Put::putting), unfolding(crate::specs::Text::answer_line))]
-fn put_answer_line(page: &mut Page, answer: RunAnswer)
+fn put_answer_line(page: &mut Page, answer: Result<Slice, Refusal>)
     requires { Space page.old (answer_line answer) }
     ensures { Put page.old (answer_line answer) page.new }
 {
     put_answer(page, answer);
     page.put(b"\n");
-}
-
-fn is_refused(answer: RunAnswer) -> bool
-    ensures { result ≡ is_refused answer }
-{
-    match answer {
-        RunAnswer::Done { .. } => false,
-        RunAnswer::NoRoom { .. } => false,
-        RunAnswer::LogShort { .. } => false,
-        RunAnswer::Paused { .. } => false,
-        RunAnswer::Refused(_) => true,
-    }
 }
 
 // ---- the whole text
@@ -133,30 +132,31 @@ fn put_plan_line(page: &mut Page, plan: usize)
 
 // The plan's line, unless the run was refused.
 #[tactic(auto, using(crate::proofs::Laws::planning))]
-fn put_plan(page: &mut Page, answer: RunAnswer, plan: usize)
+fn put_plan(page: &mut Page, answer: Result<Slice, Refusal>, plan: usize)
     requires { Space page.old (plan_text answer plan) }
     ensures { Put page.old (plan_text answer plan) page.new }
 {
-    if !is_refused(answer) {
+    if answer.is_ok() {
         put_plan_line(page, plan);
     }
 }
 
 // The listing, unless the run was refused.
 #[tactic(auto, using(crate::proofs::Laws::storing))]
-fn put_store(page: &mut Page, answer: RunAnswer, store: &Store, labels: &Lists)
+fn put_store(page: &mut Page, answer: Result<Slice, Refusal>, store: &Store, labels: &Lists)
     requires { Space page.old (store_text answer (texts labels.now) store.now.table.now store.now.roots.now store.now.order.now) }
     ensures { Put page.old
         (store_text answer (texts labels.now) store.now.table.now store.now.roots.now store.now.order.now)
         page.new }
 {
-    if !is_refused(answer) {
-        listing::put_listing(page, store, labels);
+    if answer.is_err() {
+        return;
     }
+    listing::put_listing(page, store, labels);
 }
 
 #[tactic(auto, using(texts::specs::Put::putting), unfolding(crate::specs::Text::printed))]
-fn put_run(page: &mut Page, plan: usize, answer: RunAnswer, store: &Store, labels: &Lists)
+fn put_run(page: &mut Page, plan: usize, answer: Result<Slice, Refusal>, store: &Store, labels: &Lists)
     requires { Space page.old (printed plan answer (texts labels.now) store.now.table.now store.now.roots.now store.now.order.now) }
     ensures { Put page.old
         (printed plan answer (texts labels.now) store.now.table.now store.now.roots.now store.now.order.now)
