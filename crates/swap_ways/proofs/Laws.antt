@@ -19,7 +19,7 @@ use Rattle.swap_reckoning.specs.declared.Counts.{Counts}
 use Rattle.swap_preparing.specs.Table as in_pair
 use Rattle.swap_preparing.specs.Table.{needed_in, free_in, fits_in}
 use Rattle.swap_preparing.specs.Prepared.{CountsOf, Prepared, Preparing}
-use Rattle.swap_ways.specs.Ways.{lack, short, table_after, entries_for, log_way, way_of, is_clear}
+use Rattle.swap_ways.specs.Ways.{lack, table_after, entries_for, log_way, way_of, is_clear}
 use Rattle.swap_ways.specs.Room.{clear_fits}
 use Rattle.swap_ways.specs.Reckoning.{PairAt, way_by, Reckoned}
 use Rattle.swap_ways.specs.declared.Way.{Way}
@@ -29,6 +29,9 @@ use Rattle.swap_ways.specs.declared.Way.TheVariants as way
 few_entries : (t u : List ℕ) → entries_needed t u ≤ records t + 1
 unfolding entries_needed
 few_entries t u = omega (arith, which_length (changed t u) (records t), count_small (changed t u) (records t))
+
+log_clears : (k entries held : ℕ) → entries ≤ held → way.Clear ≡ log_way k entries held
+log_clears k entries held h = rw (le-leb entries held h)
 
 -- ---- the reckoning of a swap
 
@@ -55,7 +58,7 @@ module _ {t r o : List ℕ} {k : ℕ} {p : Pair} (P : PairAt o k p) where
 
     pub asked_room : (held : ℕ) {w : Way} → w ≡ way_by k q way.Clear → records t < held → w ≡ way_of t r o held k
     asked_room held e h =
-        e ∙ way_is held way.Clear (λ b. sym (ap (λ c. cond c way.Clear (way.LogShort (short k (entries_for t r o k) held))) (le-leb (entries_for t r o k) held (omega (arith, few_entries t (table_after t r o k))))))
+        e ∙ way_is held way.Clear (λ b. log_clears k (entries_for t r o k) held (omega (arith, few_entries t (table_after t r o k))))
 
   pub asked : {q : Counts} {image : List ℕ} (held : ℕ) {w : Way} → Prepared t r p q image → w ≡ way_by k q way.Clear → records t < held
       → w ≡ way_of t r o held k
