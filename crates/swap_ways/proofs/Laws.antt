@@ -4,7 +4,7 @@ use mathlib.Core.Bool.{Bool, true, false, cond}
 use mathlib.Core.List.{List}
 use mathlib.Core.Path.{◌≡◌, refl, ap, ap₂, sym, ◌∙◌}
 use native.Mathlib.Omega.{arith}
-use borrow.Author.Tests.{leb-true, le-leb, lt-leb}
+use borrow.Author.Tests.{leb-true, le-leb}
 use lib.Dec.{leb}
 use lib.ListN.{length}
 use lib.Seq.{take_all}
@@ -24,23 +24,6 @@ use Rattle.swap_ways.specs.Room.{clear_fits}
 use Rattle.swap_ways.specs.Reckoning.{PairAt, way_by, Reckoned}
 use Rattle.swap_ways.specs.declared.Way.{Way}
 use Rattle.swap_ways.specs.declared.Way.TheVariants as way
-
--- ---- room, and a log that is long enough
-
-module _ (k : ℕ) (q : Counts) (log : Way) where
-  pub room_lacks : q.slots < q.needed → way.NoRoom (lack k q.needed q.free) ≡ way_by k q log
-  unfolding way_by
-  room_lacks h = rw (lt-leb q.needed q.slots h)
-
-  pub room_clears : {w : Way} → q.needed ≤ q.slots → w ≡ log → w ≡ way_by k q log
-  unfolding way_by
-  room_clears h e = rw (le-leb q.needed q.slots h) e
-
-pub log_shorts : (k entries held : ℕ) → held < entries → way.LogShort (short k entries held) ≡ log_way k entries held
-log_shorts k entries held h = rw (lt-leb entries held h)
-
-pub log_clears : (k entries held : ℕ) → entries ≤ held → way.Clear ≡ log_way k entries held
-log_clears k entries held h = rw (le-leb entries held h)
 
 -- a log with an entry for every record is never short
 few_entries : (t u : List ℕ) → entries_needed t u ≤ records t + 1
@@ -72,7 +55,7 @@ module _ {t r o : List ℕ} {k : ℕ} {p : Pair} (P : PairAt o k p) where
 
     pub asked_room : (held : ℕ) {w : Way} → w ≡ way_by k q way.Clear → records t < held → w ≡ way_of t r o held k
     asked_room held e h =
-        e ∙ way_is held way.Clear (λ b. log_clears k (entries_for t r o k) held (omega (arith, few_entries t (table_after t r o k))))
+        e ∙ way_is held way.Clear (λ b. sym (ap (λ c. cond c way.Clear (way.LogShort (short k (entries_for t r o k) held))) (le-leb (entries_for t r o k) held (omega (arith, few_entries t (table_after t r o k))))))
 
   pub asked : {q : Counts} {image : List ℕ} (held : ℕ) {w : Way} → Prepared t r p q image → w ≡ way_by k q way.Clear → records t < held
       → w ≡ way_of t r o held k
