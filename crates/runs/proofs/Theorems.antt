@@ -48,7 +48,6 @@ use Rattle.runs.specs.Run.{slice_call, run_judged, run_call, run_of, RunOutcome}
 use Rattle.runs.specs.Answers.{swaps_in, left_in, ran_to, answer_swaps, answer_left, answer_done, answer_paused}
 use Rattle.runs.specs.Answers.{answer_no_room, answer_log_short}
 use Rattle.runs.proofs.Stores.{stores_leave, stores_few}
-use Rattle.runs.specs.declared.Slice.{Slice}
 use Rattle.runs.specs.declared.Slice.TheVariants.{Done, NoRoom, LogShort, Paused}
 use Rattle.runs.specs.Theorems.{Good, Runnable, Startable}
 
@@ -73,12 +72,15 @@ module _ (W : OneSwap) (s : State) (r g : List ℕ) where
 
   store_ready : AllPass before_13 → Runnable W s r g
   unfolding store_stages order_stages
-  store_ready (also h rest) = go (both_rows (open_stages s.log (records t) (length o)) (order_stage BadOrder o ∷ order_stage BadTarget g ∷ W.table_stages t r o) rest)
+  store_ready (also h rest) = go (both_rows (open_stages s.log (records t) (length o)) orders rest)
     where
       sizes : Sizes t r o × (length g ≡ length o)
       sizes = run_sizes t r o g (passed_only 0 h)
 
-      go : AllPass (open_stages s.log (records t) (length o)) × AllPass (order_stage BadOrder o ∷ order_stage BadTarget g ∷ W.table_stages t r o) → Runnable W s r g
+      orders : List Stage
+      orders = order_stage BadOrder o ∷ order_stage BadTarget g ∷ W.table_stages t r o
+
+      go : AllPass (open_stages s.log (records t) (length o)) × AllPass orders → Runnable W s r g
       go (unsealed, also p (also q last)) = record {
         usable = W.usable_if t r o (also (only_passed 0 (sizes_then t r o sizes.0)) (also p last));
         target = permutation_if g q;
@@ -444,7 +446,8 @@ module _ (W : OneSwap) (number : ℕ) (s₀ : State) (r g : List ℕ) (starts : 
   pub run_spends : (b : ℕ) → (swaps_in (ran b).answer ≡ b) ⊎ ((m l : ℕ) → (ran b).answer ≡ Ok (Paused m l) → ⊥)
   run_spends b = go (decided (says_eqb (swaps_in (ran b).answer) b))
     where
-      go : (swaps_in (ran b).answer ≡ b) ⊎ (swaps_in (ran b).answer ≡ b → ⊥) → (swaps_in (ran b).answer ≡ b) ⊎ ((m l : ℕ) → (ran b).answer ≡ Ok (Paused m l) → ⊥)
+      go : (swaps_in (ran b).answer ≡ b) ⊎ (swaps_in (ran b).answer ≡ b → ⊥)
+          → (swaps_in (ran b).answer ≡ b) ⊎ ((m l : ℕ) → (ran b).answer ≡ Ok (Paused m l) → ⊥)
       go (inl q) = inl q
       go (inr n) = inr (λ m l e. n (ap swaps_in e ∙ (run_paused b m l e).2))
 

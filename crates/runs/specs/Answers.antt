@@ -10,7 +10,6 @@ use Rattle.swap_ways.specs.declared.Short.{Short}
 use Rattle.undo.specs.Stores.{State}
 use Rattle.undo.specs.Calls.{Ended}
 use Rattle.runs.specs.Run.{RunAnswer, answer_of, told, slice_answer}
-use Rattle.runs.specs.declared.Slice.{Slice}
 use Rattle.runs.specs.declared.Slice.TheVariants.{Done, NoRoom, LogShort, Paused}
 
 -- the swaps that an answer tells; a refusal has made none

@@ -46,12 +46,7 @@ fn bad_run_sizes(table: &[u8], roots: &[u8], order: &[u8], target: &[u8]) -> boo
 }
 
 // Checks 2 and 3, and then 4 to 9, once the sizes are known to be right.
-fn verdict_of_orders(
-    table: &[u8],
-    roots: &[u8],
-    order: &[u8],
-    target: &[u8],
-) -> Result<(), Refusal>
+fn verdict_of_orders(table: &[u8], roots: &[u8], order: &[u8], target: &[u8]) -> Result<(), Refusal>
     requires { bad_sizes table.now roots.now order.now ≡ false }
     ensures { result ≡ verdict_of (order_stages plain_swap table.now roots.now order.now target.now) }
 {
@@ -79,7 +74,10 @@ pub fn verdict_of_store(
 fn plan_numbered(number: usize) -> Result<Plan, Refusal>
     ensures { Planned number (stage_at fault.NoPlan number (no_plan number) ∷ []) result }
 {
-    Plan::try_from(number).map_err(|NoPlan(place)| Refusal { fault: Fault::NoPlan, place })
+    Plan::try_from(number).map_err(|NoPlan(place)| Refusal {
+        fault: Fault::NoPlan,
+        place,
+    })
 }
 
 // All checks; the plan, where they pass.
