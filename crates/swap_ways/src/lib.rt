@@ -54,17 +54,11 @@ fn pair_at(order: &[u8], level: usize) -> Pair
 fn way_by(level: usize, counts: Counts, log: Way) -> Way
     ensures { result ≡ way_by level counts log }
 {
-    let Counts {
-        needed,
-        free,
-        slots,
-        ..
-    } = counts;
-    if slots < needed {
+    if counts.slots < counts.needed {
         Way::NoRoom(Lack {
             level,
-            needed,
-            free,
+            needed: counts.needed,
+            free: counts.free,
         })
     } else {
         log

@@ -16,11 +16,11 @@ use Rattle.checks.specs.declared.Refusal.{Refusal}
 use Rattle.undo.specs.Stores.{State, state}
 use Rattle.undo.specs.Calls.{Call, cut, only, only_cut, cut_late}
 use Rattle.undo.specs.Wrote.{Spent, spent_none}
-use Rattle.undo.specs.Log.{entries_needed, entries_held, swap_stores}
+use Rattle.undo.specs.Log.{entries_needed, entries_held}
 use Rattle.undo.specs.Counts.{enough}
 use Rattle.check_log.proofs.Open.{open_sizes}
 use Rattle.check_log.specs.Slots.{Placeable}
-use Rattle.commits.specs.Steps.{Writable, Committed}
+use Rattle.commits.specs.Steps.{Writable}
 use Rattle.swap_rules.specs.Swap.{x_at, y_at}
 use Rattle.swap_ways.specs.Ways.{table_after, way_of, is_clear}
 use Rattle.swaps.specs.Outcome.{store_stages, swap_stages}
@@ -72,13 +72,7 @@ module _ {t r o log : List ℕ} {k : ℕ} (able : Storable t r o log k) where
           long : length t ≤ length image
           long = rw (new_table, length_after t r (x_at o k) (y_at o k) able.sized.whole_records) (le_refl (length t))
 
-      pub swapped_made : {f left : ℕ} {t' o' log' : List ℕ} → Committed t o log image k f t' o' log' left
-          → Swapped f (state t o log) r k w (state t' o' log') left
-      swapped_made {f} {left} {t'} {o'} {log'} c =
-          let made : Spent f (swap_stores (state t o log) (table_after t r o k) k) (state t o log) (state t' o' log') left = rw new_table at c in
-          record { answer = met; spent = rw e made }
-
-pub ruleset stored = (swapped_not, writable, swapped_made, rules)
+pub ruleset stored = (swapped_not, writable, rules)
 
 -- ---- the verdict
 
