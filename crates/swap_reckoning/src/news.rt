@@ -23,7 +23,13 @@ pub type Kept = FixedList<Children, MOST_RECORDS>;
 fn find_new(news: &[Children], wanted: Children) -> Option<usize>
     ensures { result ≡ found (new_at news.now wanted) (length news.now) }
 {
-    (0..news.len()).find(|&k| wanted == news[k])
+    // The hottest loop of a swap: a `for` compiles to fewer steps here than `find`.
+    for k in 0..news.len() {
+        if wanted == news[k] {
+            return Some(k);
+        }
+    }
+    None
 }
 
 // What a swap reads while it is reckoned: the table, the records that stand, and the slots for new ones.
