@@ -2,51 +2,46 @@
 #![tactic(auto)]
 
 ghost use Rattle.std.specs.Prelude.{◌≡◌, ◌<◌};
-ghost use Rattle.orders.specs.Arranged.{bytes_of};
 ghost use Rattle.plans.specs.Numbered.{meant};
+ghost use Rattle.plans.specs.Course.{to};
 ghost use Rattle.undo.specs.Stores.{state};
 ghost use Rattle.runs.specs.OneSwap.{plain_swap};
 ghost use Rattle.slice_judging.specs.Drivable.{Drivable};
 ghost use Rattle.slice_judging.specs.Judged.{Judgeable, judged_on};
 
-use orders::Order;
-use plans::Plan;
-use runs::RunAnswer;
+use plans::{Course, Plan};
+use runs::Slice;
 use swap_ways::Way;
 
-// What a slice reaches: the order, the swaps made of its budget, and the fuel left.
+// What a slice reaches: the course from there on, the swaps made of its budget, and the fuel left.
 #[derive(Clone, Copy)]
 pub struct Reached {
-    pub order: Order,
+    pub course: Course,
     pub swaps: usize,
     pub fuel: usize,
 }
 
-// Done where the order is the goal; else by what the next planned swap meets.
+// Done where the order is the target; else by what the next planned swap meets.
 fn judge(
     table: &[u8],
     roots: &[u8],
     order: &[u8],
     log: &[u8],
-    current: Order,
-    goal: Order,
-    n: usize,
+    course: &Course,
     plan: Plan,
     swaps: usize,
-) -> RunAnswer
-    requires { Drivable table.now roots.now order.now log.now current goal n }
-    ensures { result ≡ judged_on plain_swap (meant plan) (state table.now order.now log.now) roots.now
-        (bytes_of goal n) swaps }
+) -> Slice
+    requires { Drivable table.now roots.now order.now log.now course.now }
+    ensures { result ≡ judged_on plain_swap (meant plan) (state table.now order.now log.now) roots.now (to course.now) swaps }
 {
-    let left = plans::left(current, goal, n);
-    if plans::same(current, goal, n) {
-        return RunAnswer::Done { swaps, left };
-    }
-    let level = plans::next_level(plan, current, goal, n);
+    let left = course.left();
+    let Some(level) = course.next_level(plan) else {
+        return Slice::Done { swaps, left };
+    };
     match swap_ways::ask(table, roots, order, level, swap_ways::entries_held(log)) {
-        Way::NoRoom(lack) => RunAnswer::NoRoom { swaps, left, lack },
-        Way::LogShort(short) => RunAnswer::LogShort { swaps, left, short },
-        Way::Clear => RunAnswer::Paused { swaps, left },
+        Way::NoRoom(lack) => Slice::NoRoom { swaps, left, lack },
+        Way::LogShort(short) => Slice::LogShort { swaps, left, short },
+        Way::Clear => Slice::Paused { swaps, left },
     }
 }
 
@@ -56,19 +51,26 @@ pub fn answer_of(
     roots: &[u8],
     order: &[u8],
     log: &[u8],
-    reached: Reached,
-    goal: Order,
-    n: usize,
+    reached: &Reached,
     plan: Plan,
-) -> RunAnswer
-    requires { Judgeable table.now roots.now order.now log.now reached goal n }
-    ensures { 0 < reached.fuel → result ≡ judged_on plain_swap (meant plan) (state table.now order.now log.now)
-        roots.now (bytes_of goal n) reached.swaps }
+) -> Slice
+    requires { Judgeable table.now roots.now order.now log.now reached.now }
+    ensures { 0 < reached.now.fuel → result ≡ judged_on plain_swap (meant plan) (state table.now order.now log.now)
+        roots.now (to reached.now.course) reached.now.swaps }
 {
-    let current = reached.order;
-    let swaps = reached.swaps;
     if reached.fuel == 0 {
-        return RunAnswer::Paused { swaps, left: 0 };
+        return Slice::Paused {
+            swaps: reached.swaps,
+            left: 0,
+        };
     }
-    judge(table, roots, order, log, current, goal, n, plan, swaps)
+    judge(
+        table,
+        roots,
+        order,
+        log,
+        &reached.course,
+        plan,
+        reached.swaps,
+    )
 }
