@@ -7,23 +7,13 @@ use Rattle.std.proofs.Math.Dec.{leb-suc-suc}
 use lib.ListN.{length-replicate, get_or-replicate}
 use Rattle.std.proofs.lemmas.List.{length-take, length-drop, get_or-take, get_or-drop}
 use Rattle.lists.specs.First.{first, any, any_none, passed_none, first_agrees}
-use Rattle.lists.specs.Found.{found, seek_finds, seek_ends}
+use Rattle.lists.specs.Found.{any_listed, found, seek_finds, seek_ends}
 use Rattle.checks.specs.Stages.{clear, verdict_of, AllPass, also, passed_only, clear_only}
 use Rattle.undo.specs.Log.{entry_size, is_sealed, seal_count, counted}
 use Rattle.check_log.specs.BadLog.{some_byte, bad_log_size, bad_seal, bad_entry, log_stages, log_sizes, seal_few}
 use Rattle.check_log.specs.Slots.{misplaced, slot_at, slots, is_marked, Marked, bad_parts, entry_says, marks_more, slot_small}
 
 -- ---- some byte of a part of the log
-
-any_listed : (test : ℕ → Bool) (xs : List ℕ) → list_any test xs ≡ any (λ j. test (get_or xs j 0)) (length xs)
-unfolding first
-any_listed test [] = refl
-any_listed test (x ∷ xs) = step (test x) (any_listed test xs)
-  where
-    step : (b : Bool) → list_any test xs ≡ any (λ j. test (get_or xs j 0)) (length xs)
-        → (b || list_any test xs) ≡ ltb (cond b zero (suc (first (λ j. test (get_or xs j 0)) (length xs)))) (suc (length xs))
-    step true e = sym (lt-ltb 0 (suc (length xs)) (suc-le-suc zero-le))
-    step false e = e ∙ sym (leb-suc-suc (suc (first (λ j. test (get_or xs j 0)) (length xs))) (length xs))
 
 -- what `any` says of the n bytes from an index on
 pub some_listed : (log : List ℕ) (at n : ℕ) {b : Bool} → at + n ≤ length log → b ≡ list_any (λ x. not (eqb x 0)) (take n (drop at log)) → b ≡ some_byte log at n

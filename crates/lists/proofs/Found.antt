@@ -1,6 +1,6 @@
 -- What std's searches over the numbers below n give, in the words of `found`.
-use Rattle.std.specs.Prelude.{ℕ, ◌<◌, ◌≤◌, Bool, true, false, Option, Some, None, ◌≡◌, refl, MatchOption, ⊤, List}
-use Rattle.std.proofs.Common.{sym, ◌∙◌, arith, zero-le, Bor}
+use Rattle.std.specs.Prelude.{ℕ, ◌<◌, ◌≤◌, Bool, true, false, Option, Some, None, ◌≡◌, MatchOption, ⊤, List}
+use Rattle.std.proofs.Common.{sym, arith, Bor}
 use Rattle.std.proofs.lemmas.Iterator.{first_from_Range}
 use Rattle.std.proofs.iter.Yields.{nat_range_steps}
 use Rattle.std.specs.Iterator.{YieldsThen}
@@ -8,7 +8,6 @@ use Rattle.std.specs.List.{FoldsTo}
 use Rattle.std.specs.Fn.{CalledAt}
 use denote.Param.Members.{Mut}
 use Rattle.std.specs.declared.ops.Range.{Range}
-use Rattle.lists.specs.First.{Passed}
 use Rattle.lists.specs.Found.{found, found_at, found_none}
 
 -- `(0..n).find(|&i| ..)`, whose closure answers p at each number and changes nothing

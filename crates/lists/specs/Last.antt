@@ -1,6 +1,6 @@
--- The greatest index below n at which a test holds, 0 where it holds at none; and the laws of a loop that looks for it from the end.
-use Rattle.std.specs.Prelude.{ℕ, zero, suc, ◌-◌, ◌≤◌, ◌<◌, Bool, true, false, cond, ◌≡◌, refl}
-use Rattle.std.proofs.Common.{ap, ap₂, sym, ◌∙◌, le_refl, not-suc-le-zero, arith, rules}
+-- The greatest index below n at which a test holds, 0 where it holds at none.
+use Rattle.std.specs.Prelude.{ℕ, zero, suc, ◌<◌, Bool, true, false, cond, ◌≡◌, refl}
+use Rattle.std.proofs.Common.{ap, ap₂, ◌∙◌, le_refl, not-suc-le-zero, arith}
 use Rattle.lists.specs.Says.{either_side}
 use Rattle.lists.specs.Truth.{clash}
 
@@ -47,32 +47,3 @@ pub last_agrees : (p q : ℕ → Bool) (n : ℕ) → ((k : ℕ) → k < n → p 
 unfolding last
 last_agrees p q zero e = refl
 last_agrees p q (suc n) e = ap₂ (λ b m. cond b n m) (e n (le_refl (suc n))) (last_agrees p q n (λ k l. e k (omega arith)))
-
--- ---- a loop that looks for the last index, with i of n indices still to be looked at: where it begins, goes on, finds and ends. b is the flag that
--- its body made of p (i - 1)
-pub record Descent (p : ℕ → Bool) (n i : ℕ) : Type 0 where
-  pub within : i ≤ n
-  pub same : last p i ≡ last p n
-
-pub descent_begins : {p : ℕ → Bool} {n : ℕ} → Descent p n n
-descent_begins {p} {n} = record { within = le_refl n; same = refl }
-
-module _ {p : ℕ → Bool} {n i : ℕ} {b : Bool} (d : Descent p n i) (l : 0 < i) (e : b ≡ p (i - 1)) where
-  below : suc (i - 1) ≡ i
-  below = omega arith
-
-  pub descent_goes : b ≡ false → Descent p n (i - 1)
-  descent_goes q = record {
-    within = omega (arith, d.within);
-    same = sym (last_before p (i - 1) (sym e ∙ q)) ∙ ap (last p) below ∙ d.same;
-  }
-
-  pub descent_finds : b ≡ true → i - 1 ≡ last p n
-  descent_finds q = sym (last_at p (i - 1) (sym e ∙ q)) ∙ ap (last p) below ∙ d.same
-
-pub descent_ends : {p : ℕ → Bool} {n i : ℕ} → Descent p n i → i ≤ 0 → 0 ≡ last p n
-unfolding last
-descent_ends {p} {n} {i} d l = let z : i ≡ 0 = omega arith in sym (ap (last p) z) ∙ d.same
-
--- `search descent` answers every need of such a loop
-pub ruleset descent = (descent_begins, descent_goes, descent_finds, descent_ends, rules)
