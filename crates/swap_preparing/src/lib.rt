@@ -17,7 +17,8 @@ fn count_room(table: &[u8], roots: &[u8], pair: Pair, work: &mut Work) -> Counts
 {
     work.reckon(table, pair);
     let free = work.slots.len();
-    if free < work.news.len() {
+    let needed = work.news.len();
+    if free < needed {
         work.add_dying(table, roots, pair);
     }
     work.counts(free)
