@@ -4,7 +4,7 @@ use mathlib.Core.Bool.{Bool, true, false, cond}
 use mathlib.Core.List.{List}
 use mathlib.Core.Path.{◌≡◌, refl, ap, ap₂, sym, ◌∙◌}
 use native.Mathlib.Omega.{arith}
-use borrow.Author.Tests.{leb-true, le-leb, lt-leb}
+use borrow.Author.Tests.{leb-true, le-leb}
 use lib.Dec.{leb}
 use lib.ListN.{length}
 use lib.Seq.{take_all}
@@ -19,33 +19,19 @@ use Rattle.swap_reckoning.specs.declared.Counts.{Counts}
 use Rattle.swap_preparing.specs.Table as in_pair
 use Rattle.swap_preparing.specs.Table.{needed_in, free_in, fits_in}
 use Rattle.swap_preparing.specs.Prepared.{CountsOf, Prepared, Preparing}
-use Rattle.swap_ways.specs.Ways.{lack, short, table_after, entries_for, log_way, way_of, is_clear}
+use Rattle.swap_ways.specs.Ways.{lack, table_after, entries_for, log_way, way_of, is_clear}
 use Rattle.swap_ways.specs.Room.{clear_fits}
 use Rattle.swap_ways.specs.Reckoning.{PairAt, way_by, Reckoned}
 use Rattle.swap_ways.specs.declared.Way.{Way}
 use Rattle.swap_ways.specs.declared.Way.TheVariants as way
 
--- ---- room, and a log that is long enough
-
-module _ (k : ℕ) (q : Counts) (log : Way) where
-  pub room_lacks : q.slots < q.needed → way.NoRoom (lack k q.needed q.free) ≡ way_by k q log
-  unfolding way_by
-  room_lacks h = rw (lt-leb q.needed q.slots h)
-
-  pub room_clears : {w : Way} → q.needed ≤ q.slots → w ≡ log → w ≡ way_by k q log
-  unfolding way_by
-  room_clears h e = rw (le-leb q.needed q.slots h) e
-
-pub log_shorts : (k entries held : ℕ) → held < entries → way.LogShort (short k entries held) ≡ log_way k entries held
-log_shorts k entries held h = rw (lt-leb entries held h)
-
-pub log_clears : (k entries held : ℕ) → entries ≤ held → way.Clear ≡ log_way k entries held
-log_clears k entries held h = rw (le-leb entries held h)
-
 -- a log with an entry for every record is never short
 few_entries : (t u : List ℕ) → entries_needed t u ≤ records t + 1
 unfolding entries_needed
 few_entries t u = omega (arith, which_length (changed t u) (records t), count_small (changed t u) (records t))
+
+log_clears : (k entries held : ℕ) → entries ≤ held → way.Clear ≡ log_way k entries held
+log_clears k entries held h = rw (le-leb entries held h)
 
 -- ---- the reckoning of a swap
 

@@ -1,4 +1,3 @@
 pub mod Ways
 pub mod Room
 pub mod Reckoning
-pub mod Image

@@ -15,7 +15,7 @@ use swap_reckoning::Counts;
 use swap_records::Pair;
 
 // What a swap without room tells: its upper level, the new records that it needs, and the free ones that there are.
-#[derive(Clone, Copy)]
+#[derive(Clone, Copy, PartialEq, Eq)]
 pub struct Lack {
     pub level: usize,
     pub needed: usize,
@@ -23,7 +23,7 @@ pub struct Lack {
 }
 
 // What a swap tells whose log is short: its upper level, the entries that it needs, and those that the log holds.
-#[derive(Clone, Copy)]
+#[derive(Clone, Copy, PartialEq, Eq)]
 pub struct Short {
     pub level: usize,
     pub needed: usize,
@@ -31,7 +31,7 @@ pub struct Short {
 }
 
 // What stands in the way of a swap.
-#[derive(Clone, Copy)]
+#[derive(Clone, Copy, PartialEq, Eq)]
 pub enum Way {
     Clear,
     NoRoom(Lack),
@@ -43,25 +43,26 @@ fn pair_at(order: &[u8], level: usize) -> Pair
     requires { level + 1 < length order.now }
     ensures { PairAt order.now level result }
 {
-    let x = Variable(diagrams::wide(order[level]));
-    let y = Variable(diagrams::wide(order[level + 1]));
-    Pair { x, y }
+    Pair {
+        x: Variable(usize::from(order[level])),
+        y: Variable(usize::from(order[level + 1])),
+    }
 }
 
 // First room; where there is room, what is found of the log.
+#[tactic(auto, unfolding(crate::specs::Reckoning::way_by))]
 fn way_by(level: usize, counts: Counts, log: Way) -> Way
     ensures { result ≡ way_by level counts log }
 {
-    let needed = counts.needed;
-    let free = counts.free;
-    if counts.slots < needed {
-        return Way::NoRoom(Lack {
+    if counts.slots < counts.needed {
+        Way::NoRoom(Lack {
             level,
-            needed,
-            free,
-        });
+            needed: counts.needed,
+            free: counts.free,
+        })
+    } else {
+        log
     }
-    log
 }
 
 // Does a log that holds so many entries hold those of a swap that has room?
@@ -69,13 +70,14 @@ fn log_by(level: usize, needed: usize, held: usize) -> Way
     ensures { result ≡ log_way level needed held }
 {
     if held < needed {
-        return Way::LogShort(Short {
+        Way::LogShort(Short {
             level,
             needed,
             held,
-        });
+        })
+    } else {
+        Way::Clear
     }
-    Way::Clear
 }
 
 // How many entries a log holds besides its seal.
@@ -90,7 +92,7 @@ pub fn entries_held(log: &[u8]) -> usize
 pub fn no_image() -> [u8; RECORD_SIZE * MOST_RECORDS]
     ensures { length result ≡ record_size * most_records }
 {
-    [0u8; RECORD_SIZE * MOST_RECORDS]
+    [0; RECORD_SIZE * MOST_RECORDS]
 }
 
 // What stands in the way of the swap, and the table after it in an image as long as the table.
@@ -117,8 +119,7 @@ fn ask_room(table: &[u8], roots: &[u8], order: &[u8], level: usize, held: usize)
     ensures { result ≡ way_of table.now roots.now order.now held level }
 {
     let pair = pair_at(order, level);
-    let mut none = [0u8; 0];
-    let counts = swap_preparing::prepare(table, roots, pair, &mut none);
+    let counts = swap_preparing::prepare(table, roots, pair, &mut []);
     way_by(level, counts, Way::Clear)
 }
 

@@ -1,7 +1,7 @@
 -- The numbers of an answer of Swap are small: a swap needs at most two records for each one, no more are free than there are, and no log holds more entries
 -- than it has records.
 use Prim.Native.Nat.{ℕ, ◌+◌, ◌*◌, ◌≤◌, ◌<◌}
-use Rattle.std.specs.Prelude.{Bool, true, false, cond, ◌≡◌, leb, length}
+use Rattle.std.specs.Prelude.{Bool, true, false, cond, ◌≡◌, leb, length, Ok, Err}
 use mathlib.Core.List.{List, [], ◌∷◌, append_assoc}
 use Rattle.std.proofs.Math.Path.{refl}
 use native.Mathlib.Omega.{arith}
@@ -16,12 +16,12 @@ use Rattle.diagrams.specs.Layout.{record_size, most_records, records}
 use Rattle.diagrams.specs.Node.{Node, at}
 use Rattle.diagrams.specs.Decode.{decode}
 use Rattle.check_sizes.specs.Sizes.{sizes_if}
-use Rattle.checks.specs.Stages.{FailsFirst, here, later, stage_at, verdict_of, passed_only, clear_only, refused_only}
+use Rattle.checks.specs.Stages.{number, Verdict, FailsFirst, here, later, stage_at, verdict_of, passed_only, clear_only, refused_only}
 use Rattle.checks.specs.Check.{table_stages}
 use Rattle.checks.specs.Theorems.{Bounded}
 use Rattle.checks.proofs.Theorems.{refusal_below, table_bounded}
-use Rattle.checks.specs.declared.Verdict.{Verdict}
-use Rattle.checks.specs.declared.Verdict.TheVariants as verdict
+use Rattle.checks.specs.declared.Fault.{Fault}
+use Rattle.checks.specs.declared.Fault.TheVariants.{NoLevel}
 use Rattle.undo.specs.Stores.{State}
 use Rattle.undo.specs.Log.{most_log_records, changed, entries_needed, entries_held}
 use Rattle.check_log.specs.BadLog.{LogSizes}
@@ -81,25 +81,25 @@ module _ (s : State) (r : List ℕ) (k m : ℕ) (big : 2 * most_records < m) (le
   way_below true false n f e h w v = (omega arith, (level, (v.0, (v.1, tt))))
   way_below false c n f e h w v = (omega arith, (level, (w.0, (w.1, tt))))
 
-  refusal_small : (j x : ℕ) → FailsFirst (swap_stages t r o s.log k) j x → (j < m) × (x < m)
+  refusal_small : (j : Fault) (x : ℕ) → FailsFirst (swap_stages t r o s.log k) j x → (number j < m) × (x < m)
   unfolding swap_stages store_stages table_stages Bounded
   refusal_small _ x (here l d h) = (omega arith, omega arith)
   refusal_small j x (later h f) =
       let sizes = sizes_if t r o (passed_only 0 h) in
-      let last = table_bounded t r o (stage_at 12 k (no_level o k) ∷ []) m (omega arith) (omega arith, omega arith, tt) sizes in
+      let last = table_bounded t r o (stage_at NoLevel k (no_level o k) ∷ []) m (omega arith) (omega arith, omega arith, tt) sizes in
       open_below s.log (records t) (length o) m _ (omega arith) j x
       (λ i y g. refusal_below m _ i y (omega arith, omega (arith, sizes.few_variables), last) g) (rw (append_assoc _ _ _) at f)
 
   judged_below : (v : Verdict) → verdict_of (swap_stages t r o s.log k) ≡ v → Below m (numbers (swap_judged s r k v).answer)
   unfolding way_of
-  judged_below verdict.Clear e =
+  judged_below (Ok _) e =
       let able = swap_starts t r o s.log k (clear_only (swap_stages t r o s.log k) e) in
       let few = able.usable.sizes.few_records in
       way_below (fits_in t r (x_at o k) (y_at o k)) (leb (entries_for t r o k) (entries_held s.log)) _ _ _ _
       (room_small t (x_at o k) (y_at o k) m big few)
       (entries_small t (table_after t r o k) m (omega arith) few, held_small s.log m (omega arith) (open_sizes able.log_open))
-  judged_below (verdict.Refused f) e =
-      let w = refusal_small f.number f.place (refused_only (swap_stages t r o s.log k) f.number f.place e) in
+  judged_below (Err f) e =
+      let w = refusal_small f.fault f.place (refused_only (swap_stages t r o s.log k) f.fault f.place e) in
       (w.0, (w.1, tt))
 
   pub swap_numbers_small : Below m (numbers (swap_call s r k).answer)

@@ -1,5 +1,5 @@
 -- Laws of what specs/Entry.antt defines.
-use Rattle.std.specs.Prelude.{ℕ, ◌+◌, ◌-◌, ◌≤◌, ◌<◌, Bool, true, ◌≡◌, set}
+use Rattle.std.specs.Prelude.{ℕ, ◌+◌, ◌-◌, ◌≤◌, ◌<◌, Bool, true, ◌≡◌, Ok, Err}
 use Rattle.std.proofs.Common.{arith, sym, ◌∙◌}
 use Rattle.std.proofs.Math.Bool.{false}
 use mathlib.Core.List.{List, [], ◌∷◌}
@@ -11,16 +11,16 @@ use Rattle.lists.specs.Says.{Says}
 use Rattle.diagrams.specs.Layout.{records, root_count, root_at, variable_at, is_free}
 use Rattle.diagrams.specs.Lookup.{lookup}
 use Rattle.diagrams.specs.Value.{value}
-use Rattle.checks.specs.Stages.{Stage, AllPass, none, also, both_rows, rows_pass, FailsFirst, stage_at, refusal, verdict_of}
+use Rattle.checks.specs.Stages.{Verdict, clear, Stage, AllPass, none, also, both_rows, rows_pass, FailsFirst, stage_at, refusal, verdict_of}
 use Rattle.checks.specs.Stages.{only_passed, passed_only, clear_if, clear_only, refused_if, refused_only}
 use Rattle.check_names.specs.Names.{NamedByRoot, NamedByRecord}
 use Rattle.checks.specs.Check.{order_stage, table_stages, check_stages, used}
 use Rattle.checks.specs.Usable.{Usable}
 use Rattle.checks.proofs.Usable.{usable_if, usable_then, all_pass, passes_all}
 use Rattle.checks.specs.declared.Refusal.{Refusal}
-use Rattle.checks.specs.declared.Verdict.{Verdict}
-use Rattle.checks.specs.declared.Verdict.TheVariants as verdict
-use Rattle.undo.specs.Stores.{State, state, Store, puts}
+use Rattle.checks.specs.declared.Fault.{Fault}
+use Rattle.checks.specs.declared.Fault.TheVariants.{BadOrder, NoLevel}
+use Rattle.undo.specs.Stores.{State, Store, puts}
 use Rattle.undo.specs.Calls.{Call, Ended, whole, only}
 use Rattle.undo.specs.Log.{entries_held}
 use Rattle.undo.specs.Survives.{Ready}
@@ -35,15 +35,13 @@ use Rattle.swap_rules.specs.Theorem.{Cofactors}
 use Rattle.swap_preparing.specs.Table.{fits_in}
 use Rattle.swap_ways.specs.Ways.{table_after, is_clear, way_clear}
 use Rattle.swap_ways.specs.Room.{Needed, Dying, clear_fits, clear_then}
-use Rattle.swaps.specs.Outcome.{store_stages, no_level, swap_stages, swap_way, swap_after, swap_judged, swap_call, swap_of, SwapOutcome}
+use Rattle.swaps.specs.Outcome.{SwapAnswer, store_stages, no_level, swap_stages, swap_way, swap_after, swap_judged, swap_call, swap_of, SwapOutcome}
 use Rattle.swaps.specs.Bytes.{length_after, swap_usable, swap_root_value, swap_cofactors, swap_used, swap_frees_exactly}
 use Rattle.swaps.specs.Work.{Swappable}
 use Rattle.swap_ways.specs.declared.Lack.{Lack}
 use Rattle.swap_ways.specs.declared.Short.{Short}
 use Rattle.swap_ways.specs.declared.Way.{Way}
 use Rattle.swap_ways.specs.declared.Way.TheVariants as way
-use Rattle.swaps.specs.declared.SwapAnswer.{SwapAnswer}
-use Rattle.swaps.specs.declared.SwapAnswer.TheVariants.{Made, NoRoom, LogShort, Refused}
 use Rattle.swaps.specs.Entry.{AbleOf, state_after}
 
 -- ---- what passes Swap's checks
@@ -53,7 +51,7 @@ module _ (t r o log : List ℕ) where
   pub store_usable : AllPass (store_stages t r o log) → Usable t r o × Open log
   unfolding store_stages check_stages
   store_usable (also h rest) =
-      let w = both_rows (open_stages log (records t) (length o)) (order_stage 2 o ∷ table_stages t r o) rest in
+      let w = both_rows (open_stages log (records t) (length o)) (order_stage BadOrder o ∷ table_stages t r o) rest in
       (usable_if t r o (passes_all t r o (also h w.1)), open_if log (records t) (length o) w.0)
 
   store_passes : Usable t r o → Open log → AllPass (store_stages t r o log)
@@ -63,11 +61,11 @@ module _ (t r o log : List ℕ) where
       go : AllPass (check_stages t r o) → AllPass (store_stages t r o log)
       go (also h rest) =
           let first = open_then log (records t) (length o) p in
-          also h (rows_pass (open_stages log (records t) (length o)) (order_stage 2 o ∷ table_stages t r o) first rest)
+          also h (rows_pass (open_stages log (records t) (length o)) (order_stage BadOrder o ∷ table_stages t r o) first rest)
 
   module _ (k : ℕ) where
     abbrev level_stage : List Stage
-    level_stage = stage_at 12 k (no_level o k) ∷ []
+    level_stage = stage_at NoLevel k (no_level o k) ∷ []
 
     pub swap_starts : AllPass (swap_stages t r o log k) → Swappable t r o log k
     unfolding swap_stages
@@ -105,17 +103,17 @@ module _ (s : State) (r : List ℕ) (k : ℕ) (able : AbleOf s r k) where
       }
 
   -- it is made where nothing stands in the way
-  pub swap_clear : is_clear (swap_way s r k) ≡ true → swap_of s r k ≡ record { answer = Made; state = state_after s r k }
+  pub swap_clear : is_clear (swap_way s r k) ≡ true → swap_of s r k ≡ record { answer = Ok way.Clear; state = state_after s r k }
   swap_clear e =
       let clear = way_clear s.table r s.order (entries_held s.log) k e in
       ap (λ (c : Call SwapAnswer). whole c s) (call_is ∙ ap (swap_after s r k) clear)
-      ∙ ap (λ (z : State). record { answer = Made; state = z }) (uncut s (table_after s.table r s.order k) k (swap_ready e))
+      ∙ ap (λ (z : State). record { answer = Ok way.Clear; state = z }) (uncut s (table_after s.table r s.order k) k (swap_ready e))
 
   -- otherwise the answer is what stands in the way, and nothing changes
-  pub swap_stuck : (l : Lack) → swap_way s r k ≡ way.NoRoom l → swap_call s r k ≡ only (NoRoom l)
+  pub swap_stuck : (l : Lack) → swap_way s r k ≡ way.NoRoom l → swap_call s r k ≡ only (Ok (way.NoRoom l))
   swap_stuck l e = call_is ∙ ap (swap_after s r k) e
 
-  pub swap_short : (l : Short) → swap_way s r k ≡ way.LogShort l → swap_call s r k ≡ only (LogShort l)
+  pub swap_short : (l : Short) → swap_way s r k ≡ way.LogShort l → swap_call s r k ≡ only (Ok (way.LogShort l))
   swap_short l e = call_is ∙ ap (swap_after s r k) e
 
 -- ---- and of no other one: what isn't refused was accepted, and has the two levels and an empty log
@@ -134,41 +132,41 @@ module _ (s : State) (r : List ℕ) (k : ℕ) where
   stages = swap_stages t r o s.log k
 
   -- an answer that is no refusal comes from a table that passed, and is what stands in the way
-  pub unrefused : (a : SwapAnswer) → (swap_call s r k).answer ≡ a → ((f : Refusal) → a ≡ Refused f → ⊥)
+  pub unrefused : (a : SwapAnswer) → (swap_call s r k).answer ≡ a → ((f : Refusal) → a ≡ Err f → ⊥)
       → AbleOf s r k × ((swap_after s r k (swap_way s r k)).answer ≡ a)
   unfolding swap_call
   unrefused a e n = go (verdict_of stages) refl e
     where
       go : (v : Verdict) → verdict_of stages ≡ v → (swap_judged s r k v).answer ≡ a → AbleOf s r k × ((swap_after s r k (swap_way s r k)).answer ≡ a)
-      go verdict.Clear c q = (swap_starts t r o s.log k (clear_only stages c), q)
-      go (verdict.Refused f) c q = absurd (n f (sym q))
+      go (Ok _) c q = (swap_starts t r o s.log k (clear_only stages c), q)
+      go (Err f) c q = absurd (n f (sym q))
 
-  pub made_only : (swap_call s r k).answer ≡ Made → AbleOf s r k × (is_clear (swap_way s r k) ≡ true)
-  made_only e = let (w, q) = unrefused Made e (λ f q. apart (cc)) in (w, go (swap_way s r k) q)
+  pub made_only : (swap_call s r k).answer ≡ Ok way.Clear → AbleOf s r k × (is_clear (swap_way s r k) ≡ true)
+  made_only e = let (w, q) = unrefused (Ok way.Clear) e (λ f q. apart (cc)) in (w, go (swap_way s r k) q)
     where
-      go : (w : Way) → (swap_after s r k w).answer ≡ Made → is_clear w ≡ true
+      go : (w : Way) → (swap_after s r k w).answer ≡ Ok way.Clear → is_clear w ≡ true
       go way.Clear q = refl
       go (way.NoRoom l) q = apart (cc)
       go (way.LogShort l) q = apart (cc)
 
-  pub lacks_only : (l : Lack) → (swap_call s r k).answer ≡ NoRoom l → AbleOf s r k × (swap_way s r k ≡ way.NoRoom l)
-  lacks_only l e = let (w, q) = unrefused (NoRoom l) e (λ f q. apart (cc)) in (w, go (swap_way s r k) q)
+  pub lacks_only : (l : Lack) → (swap_call s r k).answer ≡ Ok (way.NoRoom l) → AbleOf s r k × (swap_way s r k ≡ way.NoRoom l)
+  lacks_only l e = let (w, q) = unrefused (Ok (way.NoRoom l)) e (λ f q. apart (cc)) in (w, go (swap_way s r k) q)
     where
-      go : (w : Way) → (swap_after s r k w).answer ≡ NoRoom l → w ≡ way.NoRoom l
+      go : (w : Way) → (swap_after s r k w).answer ≡ Ok (way.NoRoom l) → w ≡ way.NoRoom l
       go way.Clear q = apart (cc)
       go (way.NoRoom m) q = let p : m ≡ l = cc in ap way.NoRoom p
       go (way.LogShort m) q = apart (cc)
 
-  pub short_only : (l : Short) → (swap_call s r k).answer ≡ LogShort l → AbleOf s r k × (swap_way s r k ≡ way.LogShort l)
-  short_only l e = let (w, q) = unrefused (LogShort l) e (λ f q. apart (cc)) in (w, go (swap_way s r k) q)
+  pub short_only : (l : Short) → (swap_call s r k).answer ≡ Ok (way.LogShort l) → AbleOf s r k × (swap_way s r k ≡ way.LogShort l)
+  short_only l e = let (w, q) = unrefused (Ok (way.LogShort l)) e (λ f q. apart (cc)) in (w, go (swap_way s r k) q)
     where
-      go : (w : Way) → (swap_after s r k w).answer ≡ LogShort l → w ≡ way.LogShort l
+      go : (w : Way) → (swap_after s r k w).answer ≡ Ok (way.LogShort l) → w ≡ way.LogShort l
       go way.Clear q = apart (cc)
       go (way.NoRoom m) q = apart (cc)
       go (way.LogShort m) q = let p : m ≡ l = cc in ap way.LogShort p
 
   -- so a made swap leaves an accepted table under the exchanged order, and every root's values
-  module _ (made : (swap_call s r k).answer ≡ Made) where
+  module _ (made : (swap_call s r k).answer ≡ Ok way.Clear) where
     able : AbleOf s r k
     able = (made_only made).0
 
@@ -178,7 +176,7 @@ module _ (s : State) (r : List ℕ) (k : ℕ) where
     abbrev after : State
     after = (swap_of s r k).state
 
-    pub made_is : swap_of s r k ≡ record { answer = Made; state = state_after s r k }
+    pub made_is : swap_of s r k ≡ record { answer = Ok way.Clear; state = state_after s r k }
     made_is = swap_clear s r k able (made_only made).1
 
     state_is : after ≡ state_after s r k
@@ -204,21 +202,21 @@ module _ (s : State) (r : List ℕ) (k : ℕ) where
     made_used = rw state_is (swap_used t r o k able.usable able.level fits)
 
   -- a swap that isn't made makes no store
-  pub unmade_keeps : ((swap_call s r k).answer ≡ Made → ⊥) → (swap_call s r k).stores ≡ []
+  pub unmade_keeps : ((swap_call s r k).answer ≡ Ok way.Clear → ⊥) → (swap_call s r k).stores ≡ []
   unfolding swap_call
   unmade_keeps n = go (verdict_of stages) n
     where
-      stuck : (w : Way) → ((swap_after s r k w).answer ≡ Made → ⊥) → (swap_after s r k w).stores ≡ []
+      stuck : (w : Way) → ((swap_after s r k w).answer ≡ Ok way.Clear → ⊥) → (swap_after s r k w).stores ≡ []
       stuck way.Clear m = absurd (m refl)
       stuck (way.NoRoom l) m = refl
       stuck (way.LogShort l) m = refl
 
-      go : (v : Verdict) → ((swap_judged s r k v).answer ≡ Made → ⊥) → (swap_judged s r k v).stores ≡ []
-      go verdict.Clear m = stuck (swap_way s r k) m
-      go (verdict.Refused f) m = refl
+      go : (v : Verdict) → ((swap_judged s r k v).answer ≡ Ok way.Clear → ⊥) → (swap_judged s r k v).stores ≡ []
+      go (Ok _) m = stuck (swap_way s r k) m
+      go (Err f) m = refl
 
   -- and so changes nothing
-  pub unmade_state : ((swap_call s r k).answer ≡ Made → ⊥) → (swap_of s r k).state ≡ s
+  pub unmade_state : ((swap_call s r k).answer ≡ Ok way.Clear → ⊥) → (swap_of s r k).state ≡ s
   unfolding puts
   unmade_state n = ap (λ (l : List Store). puts l s) (unmade_keeps n)
 
@@ -227,36 +225,36 @@ module _ (s : State) (r : List ℕ) (k : ℕ) where
   swap_one p q = (ap (λ (e : Ended SwapAnswer). e.answer) (p ∙ sym q), ap (λ (e : Ended SwapAnswer). e.state) (p ∙ sym q))
 
   -- Swap refuses with n at p exactly where check n fails at p, at no place before it, and every earlier check passes everywhere; it makes no store then
-  pub swap_refuses : (n p : ℕ) → FailsFirst stages n p → swap_call s r k ≡ only (Refused (refusal n p))
+  pub swap_refuses : (n : Fault) (p : ℕ) → FailsFirst stages n p → swap_call s r k ≡ only (Err (refusal n p))
   unfolding swap_call
   swap_refuses n p f = ap (swap_judged s r k) (refused_if stages n p f)
 
-  pub swap_refuses_only : (n p : ℕ) → (swap_call s r k).answer ≡ Refused (refusal n p) → FailsFirst stages n p
+  pub swap_refuses_only : (n : Fault) (p : ℕ) → (swap_call s r k).answer ≡ Err (refusal n p) → FailsFirst stages n p
   unfolding swap_call
   swap_refuses_only n p e = refused_only stages n p (go (verdict_of stages) e)
     where
-      not_refused : (w : Way) → (swap_after s r k w).answer ≡ Refused (refusal n p) → verdict.Clear ≡ verdict.Refused (refusal n p)
+      not_refused : (w : Way) → (swap_after s r k w).answer ≡ Err (refusal n p) → ◌≡◌ {A = Verdict} clear (Err (refusal n p))
       not_refused way.Clear q = apart (cc)
       not_refused (way.NoRoom l) q = apart (cc)
       not_refused (way.LogShort l) q = apart (cc)
 
-      go : (v : Verdict) → (swap_judged s r k v).answer ≡ Refused (refusal n p) → v ≡ verdict.Refused (refusal n p)
-      go verdict.Clear q = not_refused (swap_way s r k) q
-      go (verdict.Refused f) q = cc
+      go : (v : Verdict) → (swap_judged s r k v).answer ≡ Err (refusal n p) → v ≡ Err (refusal n p)
+      go (Ok _) q = not_refused (swap_way s r k) q
+      go (Err f) q = cc
 
   -- no swap makes more stores than the library has fuel for
   pub few_stores : length (swap_call s r k).stores ≤ enough
   few_stores = go (swap_call s r k).answer refl
     where
-      none_made : ((swap_call s r k).answer ≡ Made → ⊥) → length (swap_call s r k).stores ≤ enough
+      none_made : ((swap_call s r k).answer ≡ Ok way.Clear → ⊥) → length (swap_call s r k).stores ≤ enough
       none_made n = rw (unmade_keeps n) (omega arith)
 
       go : (a : SwapAnswer) → (swap_call s r k).answer ≡ a → length (swap_call s r k).stores ≤ enough
-      go Made e =
+      go (Ok way.Clear) e =
           let (able, clear) = made_only e in
           let stores = call_is s r k able ∙ ap (swap_after s r k) (way_clear t r o held k clear) in
           let sizes = open_sizes able.log_open in
           rw stores (omega (arith, swap_few s (table_after t r o k) k (clear_then t r o held k clear).1 sizes.few))
-      go (NoRoom l) e = none_made (λ q. apart (cc))
-      go (LogShort l) e = none_made (λ q. apart (cc))
-      go (Refused f) e = none_made (λ q. apart (cc))
+      go (Ok (way.NoRoom l)) e = none_made (λ q. apart (cc))
+      go (Ok (way.LogShort l)) e = none_made (λ q. apart (cc))
+      go (Err f) e = none_made (λ q. apart (cc))

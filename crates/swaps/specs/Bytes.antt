@@ -1,5 +1,5 @@
 -- A fitting swap of a stored table, over its bytes: it passes every check again, under the exchanged order, and every root keeps its value.
-use Rattle.std.specs.Prelude.{ℕ, ◌+◌, ◌*◌, ◌%◌, ◌<◌, Bool, true, false, not, List, ◌≡◌, get_or, drop}
+use Rattle.std.specs.Prelude.{ℕ, ◌+◌, ◌*◌, ◌%◌, ◌<◌, Bool, true, false, not, List, ◌≡◌, get_or, drop, Ok}
 use Rattle.std.proofs.Common.{arith, inl, inr, ◌∙◌}
 use Rattle.std.proofs.Math.Path.{refl, ap, sym}
 use Rattle.std.proofs.Math.ListN.{length, take, get_or-eq_default}
@@ -23,7 +23,6 @@ use Rattle.check_names.specs.Names.{NamedByRoot, NamedByRecord}
 use Rattle.checks.specs.Usable.{Usable}
 use Rattle.checks.proofs.Usable.{by_root_lem, root_by, by_record_lem, record_by}
 use Rattle.checks.proofs.Theorems.{accepts}
-use Rattle.checks.specs.declared.CheckAnswer.TheVariants.{Accepted}
 use Rattle.diagrams.specs.Edition.{plain}
 use Rattle.swap_rules.specs.Record.{is_used_node, is_free_node, UsedOf, Behind, behind}
 use Rattle.swap_rules.specs.Swap.{x_at, y_at, crosses, dies, filled, used_count, used_afterwards, swapped}
@@ -153,7 +152,7 @@ module _ (t r o : List ℕ) (k : ℕ) (usable : Usable t r o) (level : k + 1 < l
       same : length t' ≡ length t
       same = length_after t r x y usable.sizes.whole_records
 
-  pub swap_accepted : check_of t' r (exchange o k) ≡ Accepted (used t')
+  pub swap_accepted : check_of t' r (exchange o k) ≡ Ok (used t')
   swap_accepted = accepts t' r (exchange o k) swap_usable
 
   -- every root keeps its reference, and its value for every combination

@@ -1,12 +1,7 @@
 -- What Swap answers, and when: made where needed is not above free plus dying and the log holds the entries, no room where it is above, log short where only
 -- the log is in the way, refused where a check fails first.
-use Rattle.std.specs.Prelude.{ℕ, ◌+◌, ◌-◌, ◌≤◌, ◌<◌, Bool, true, ◌≡◌, set}
-use Rattle.std.proofs.Common.{arith, sym, ◌∙◌}
-use Rattle.std.proofs.Math.Bool.{false}
-use mathlib.Core.List.{List, [], ◌∷◌}
-use Rattle.std.proofs.Math.Path.{refl, ap}
-use Rattle.std.proofs.Math.ListN.{length}
-use borrow.Author.Tests.{leb-false, lt-leb}
+use Rattle.std.specs.Prelude.{ℕ, set}
+use mathlib.Core.List.{List}
 use Rattle.orders.specs.Exchange.{exchange}
 use Rattle.undo.specs.Stores.{State, state}
 use Rattle.undo.specs.Log.{seal_at, old_entries}

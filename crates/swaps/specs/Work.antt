@@ -8,11 +8,7 @@ use Rattle.undo.specs.Wrote.{Spent}
 use Rattle.check_log.specs.BadLog.{LogSizes}
 use Rattle.check_log.specs.Open.{Open}
 use Rattle.swap_ways.specs.declared.Way.{Way}
-use Rattle.swap_ways.specs.declared.Way.TheVariants as way
 use Rattle.swaps.specs.Outcome.{swap_way, swap_after}
-use Rattle.swaps.specs.declared.Swapping.{Swapping}
-use Rattle.swaps.specs.declared.SwapAnswer.{SwapAnswer}
-use Rattle.swaps.specs.declared.SwapAnswer.TheVariants.{Made, NoRoom, LogShort}
 
 -- ---- a swap of the three buffers
 
@@ -23,17 +19,12 @@ pub record Storable (t r o log : List ℕ) (k : ℕ) : Type 0 where
   pub few_levels : length o ≤ ceiling
   pub log_sized : LogSizes log
 
--- what stood in the way, and the stores, cut after f of them
-pub record Swapped (f : ℕ) (s : State) (r : List ℕ) (k : ℕ) (a : Swapping) (s' : State) : Type 0 where
-  pub answer : a.way ≡ swap_way s r k
-  pub spent : Spent f (swap_after s r k a.way).stores s s' a.fuel
+-- what stood in the way, and the stores, cut after f of them: so much fuel is left
+pub record Swapped (f : ℕ) (s : State) (r : List ℕ) (k : ℕ) (w : Way) (s' : State) (left : ℕ) : Type 0 where
+  pub answer : w ≡ swap_way s r k
+  pub spent : Spent f (swap_after s r k w).stores s s' left
 
 -- ---- the entry
-
-abbrev pub answer_by : Way → SwapAnswer
-answer_by way.Clear = Made
-answer_by (way.NoRoom l) = NoRoom l
-answer_by (way.LogShort l) = LogShort l
 
 -- a table that is accepted, two levels of its order, and an empty log
 pub record Swappable (t r o log : List ℕ) (k : ℕ) : Type 0 where
