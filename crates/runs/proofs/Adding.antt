@@ -1,5 +1,5 @@
 -- Slices add up, over the bytes, by the plan with any number and of any bytes, refused ones too.
-use Rattle.std.specs.Prelude.{ℕ, ◌+◌, ◌≡◌, refl}
+use Rattle.std.specs.Prelude.{ℕ, ◌+◌, ◌≡◌, refl, Ok, Err}
 use mathlib.Core.List.{List, [], ◌∷◌, foldr}
 use Rattle.std.proofs.Math.Path.{ap}
 use Rattle.std.proofs.Common.{sym, ◌∙◌, add-zero}
@@ -7,20 +7,16 @@ use Rattle.plans.specs.Numbered.{plan_of}
 use Rattle.slice_rules.specs.Slices as over
 use Rattle.slice_rules.proofs.Slices as over_laws
 use Rattle.slice_rules.specs.Slices.{SliceOf}
-use Rattle.checks.specs.Stages.{verdict_of, clear_only}
+use Rattle.checks.specs.Stages.{Verdict, verdict_of, clear_only}
 use Rattle.checks.specs.declared.Refusal.{Refusal}
-use Rattle.checks.specs.declared.Verdict.{Verdict}
-use Rattle.checks.specs.declared.Verdict.TheVariants as verdict
 use Rattle.undo.specs.Stores.{State, puts}
 use Rattle.undo.specs.Calls.{Ended, whole}
 use Rattle.swap_ways.specs.declared.Way.{Way}
 use Rattle.runs.specs.OneSwap.{OneSwap}
-use Rattle.runs.specs.Run.{relay, run_stages, run_judged, run_call, run_of}
+use Rattle.runs.specs.Run.{RunAnswer, relay, run_stages, run_judged, run_call, run_of}
 use Rattle.runs.specs.Answers.{as_one, ran_to, ran_join}
 use Rattle.runs.specs.Theorems.{Startable}
 use Rattle.runs.proofs.Theorems.{run_starts, run_is, run_state, run_restarts}
-use Rattle.runs.specs.declared.RunAnswer.{RunAnswer}
-use Rattle.runs.specs.declared.RunAnswer.TheVariants.{Refused}
 
 module _ (W : OneSwap) (number : ℕ) (r g : List ℕ) where
   -- a run and more runs, each over the buffers that the one before left, told as one
@@ -48,8 +44,8 @@ module _ (W : OneSwap) (number : ℕ) (r g : List ℕ) where
         ∙ sym (run_is W number s r g starts (a + b))
 
   -- a refused run changes nothing, and so is refused again, whatever the budget
-  refused_again : (s : State) (f : Refusal) → verdict_of (run_stages W number s.table r s.order g s.log) ≡ verdict.Refused f
-      → (b : ℕ) → run_of W number s r g b ≡ record { answer = Refused f; state = s }
+  refused_again : (s : State) (f : Refusal) → verdict_of (run_stages W number s.table r s.order g s.log) ≡ Err f
+      → (b : ℕ) → run_of W number s r g b ≡ record { answer = Err f; state = s }
   unfolding run_call puts
   refused_again s f e b = ap (λ v. whole (run_judged W (plan_of number) s r g b v) s) e
 
@@ -59,10 +55,10 @@ module _ (W : OneSwap) (number : ℕ) (r g : List ℕ) where
     where
       go : (v : Verdict) → verdict_of (run_stages W number s.table r s.order g s.log) ≡ v
           → as_one (run_of W number s r g a) (run_of W number (run_of W number s r g a).state r g b) ≡ run_of W number s r g (a + b)
-      go verdict.Clear e = add_started s (run_starts W s r g number (clear_only (run_stages W number s.table r s.order g s.log) e)) a b
-      go (verdict.Refused f) e =
+      go (Ok _) e = add_started s (run_starts W s r g number (clear_only (run_stages W number s.table r s.order g s.log) e)) a b
+      go (Err f) e =
           ap (λ (w : Ended RunAnswer). as_one w (run_of W number w.state r g b)) (refused_again s f e a)
-          ∙ ap (as_one (record { answer = Refused f; state = s })) (refused_again s f e b)
+          ∙ ap (as_one (record { answer = Err f; state = s })) (refused_again s f e b)
           ∙ sym (refused_again s f e (a + b))
 
   -- any number of runs are one with the sum of their budgets

@@ -1,52 +1,55 @@
--- One law for each way out of a check, over plain variables: its premises are what is known there.
-use Prim.Native.Nat.{ℕ}
-use mathlib.Core.Bool.{Bool, true, false, not}
-use mathlib.Core.List.{List}
-use mathlib.Core.Path.{◌≡◌, ap, sym, ◌∙◌}
-use native.Mathlib.Omega.{arith}
-use borrow.Author.Rules.{rules}
-use lib.Dec.{eqb}
-use lib.ListN.{length}
-use Rattle.lists.specs.First.{passed_all}
+-- What passed checks say, and what the last one answers.
+use Rattle.std.specs.Prelude.{ℕ, false, not, List, [], ◌∷◌, ◌++◌, ◌≡◌, refl, eqb, length, Result, Ok, Err, MatchResult}
+use Rattle.std.specs.Result.{IsErrAnd}
+use Rattle.std.proofs.Common.{ap, sym, ◌∙◌, subst, arith}
+use Rattle.std.proofs.lemmas.Result.{err_from_is_err_and}
 use Rattle.lists.specs.Truth.{or_neither}
 use Rattle.diagrams.specs.Layout.{records}
+use Rattle.plans.specs.Numbered.{no_plan, Numbers}
+use Rattle.plans.specs.declared.Plan.{Plan}
+use Rattle.plans.specs.declared.NoPlan.{NoPlan}
 use Rattle.check_sizes.specs.Sizes.{bad_sizes}
-use Rattle.checks.specs.Stages.{verdict_of, chain, refusal, place_refuses, place_passes, row_refuses, row_passes}
+use Rattle.checks.specs.Stages.{Verdict, clear, Stage, stage_at, refusal, refused_where, verdict_of, place_ends, row_refuses, row_passes}
 use Rattle.checks.specs.declared.Refusal.{Refusal}
-use Rattle.checks.specs.declared.Verdict.{Verdict}
-use Rattle.checks.specs.declared.Verdict.TheVariants as verdict
-use Rattle.check_log.specs.BadLog.{open_stages}
+use Rattle.checks.specs.declared.Fault.TheVariants as fault
 use Rattle.check_log.specs.Slots.{Placeable}
-use Rattle.runs.specs.OneSwap.{plain_swap}
-use Rattle.runs.specs.Run.{bad_run_sizes, order_stages, store_stages}
+use Rattle.runs.specs.Run.{bad_run_sizes, Planned}
 use Rattle.runs.proofs.Theorems.{run_sizes}
 
-pub ruleset ordering = (passed_all, chain)
+-- ---- the sizes are right
 
-module _ (t r o g log : List ℕ) {b : Bool} (sizes : b ≡ bad_run_sizes t r o g) where
-  pub sizes_refuse : b ≡ true → verdict.Refused (refusal 1 0) ≡ verdict_of (store_stages plain_swap t r o g log)
-  unfolding store_stages
-  sizes_refuse h = place_refuses 1 0 (bad_run_sizes t r o g) b _ sizes h
+pub sizes_right : (t r o g : List ℕ) → bad_run_sizes t r o g ≡ false → bad_sizes t r o ≡ false
+unfolding bad_run_sizes
+sizes_right t r o g e = (or_neither (bad_sizes t r o) (not (eqb (length g) (length o))) e).0
 
-  module _ (h : b ≡ false) where
-    pub sizes_right : bad_sizes t r o ≡ false
-    unfolding bad_run_sizes
-    sizes_right = (or_neither (bad_sizes t r o) (not (eqb (length g) (length o))) (sym sizes ∙ h)).0
+pub placeable : (t r o g : List ℕ) {m : ℕ} → bad_run_sizes t r o g ≡ false → m ≡ records t → Placeable m (length o)
+placeable t r o g e q = let w = (run_sizes t r o g e).0 in (w.some_variables, omega (arith, w.few_records, w.few_variables))
 
-    pub placeable : {m : ℕ} → m ≡ records t → Placeable m (length o)
-    placeable {m} e = let w = (run_sizes t r o g (sym sizes ∙ h)).0 in (w.some_variables, omega (arith, w.few_records, w.few_variables))
+-- ---- the row that ends with the plan
 
-    module _ {m : ℕ} (e : m ≡ records t) {v : Verdict} (judged : v ≡ verdict_of (open_stages log m (length o))) where
-      log_is : v ≡ verdict_of (open_stages log (records t) (length o))
-      log_is = judged ∙ ap (λ n. verdict_of (open_stages log n (length o))) e
+module _ (number : ℕ) where
+  abbrev last : List Stage
+  last = stage_at fault.NoPlan number (no_plan number) ∷ []
 
-      pub log_refuses : {f : Refusal} → v ≡ verdict.Refused f → verdict.Refused f ≡ verdict_of (store_stages plain_swap t r o g log)
-      unfolding store_stages
-      log_refuses {f} q = place_passes 1 0 (bad_run_sizes t r o g) b _ _ sizes h (row_refuses (open_stages log (records t) (length o)) _ f log_is q)
+  last_is : verdict_of last ≡ refused_where fault.NoPlan (no_plan number) number
+  last_is = sym (place_ends fault.NoPlan number (no_plan number) refl refl)
 
-      pub orders_judged : {w : Verdict} → v ≡ verdict.Clear → w ≡ verdict_of (order_stages plain_swap t r o g)
-          → w ≡ verdict_of (store_stages plain_swap t r o g log)
-      unfolding store_stages
-      orders_judged {w} q z = place_passes 1 0 (bad_run_sizes t r o g) b w _ sizes h (row_passes (open_stages log (records t) (length o)) _ log_is q z)
+  -- by the plan that the number stands for, or by the number that no plan has, which `post` says of a refusal
+  pub planned_last : {post : NoPlan → Refusal → Type 0} (r : Result Plan NoPlan) (a : Result Plan Refusal) → Numbers number r
+      → MatchResult r (λ plan. a ≡ Ok plan) (λ e. IsErrAnd a (post e)) → ((e : NoPlan) (w : Refusal) → post e w → w ≡ refusal fault.NoPlan e.0)
+      → Planned number last a
+  planned_last (Ok plan) a n m f = subst (Planned number last) (sym m) (last_is ∙ ap (λ b. refused_where fault.NoPlan b number) n.1, n.0)
+  planned_last (Err e) a n m f =
+      let p = err_from_is_err_and a m in
+      let place : p.0 ≡ refusal fault.NoPlan number = f e p.0 p.2 ∙ ap (refusal fault.NoPlan) n.0 in
+      subst (Planned number last) (sym p.1) (last_is ∙ ap (λ b. refused_where fault.NoPlan b number) n.1 ∙ ap Err (sym place))
 
-pub ruleset refusing = (sizes_refuse, sizes_right, placeable, log_refuses, orders_judged, rules)
+module _ (number : ℕ) (ss more : List Stage) {v : Verdict} (judged : v ≡ verdict_of ss) where
+  pub planned_stops : {w : Refusal} (r : Result Plan Refusal) → v ≡ Err w → IsErrAnd r (λ u. u ≡ w) → Planned number (ss ++ more) r
+  planned_stops {w} r h s =
+      let p = err_from_is_err_and r s in
+      subst (Planned number (ss ++ more)) (sym (p.1 ∙ ap Err p.2)) (sym (row_refuses ss more w judged h))
+
+  pub planned_goes : (r : Result Plan Refusal) → v ≡ clear → Planned number more r → Planned number (ss ++ more) r
+  planned_goes (Ok plan) h p = (sym (row_passes ss more judged h (sym p.0)), p.1)
+  planned_goes (Err w) h p = sym (row_passes ss more judged h (sym p))

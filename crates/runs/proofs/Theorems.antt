@@ -1,11 +1,12 @@
 -- Laws of what specs/Theorems.antt defines.
 use Prim.Native.Nat.{ℕ, ◌+◌, ◌*◌, ◌≤◌, ◌<◌}
-use Rattle.std.specs.Prelude.{Bool, true, not, List, [], ◌∷◌, ◌⊎◌, ◌≡◌, eqb}
+use Rattle.std.specs.Prelude.{Bool, true, not, List, [], ◌∷◌, ◌⊎◌, ◌≡◌, eqb, Ok, Err}
 use Rattle.std.proofs.Math.Bool.{false}
 use Rattle.std.proofs.Common.{inl, inr, ◌∙◌, arith}
 use Rattle.std.proofs.Math.Path.{refl, ap, sym}
 use borrow.Author.Tests.{eq-eqb, eqb-true, not-false}
 use Rattle.std.proofs.Math.ListN.{length}
+use Rattle.lists.specs.Apart.{apart}
 use Rattle.lists.specs.Says.{Says, says_eqb, refutes, denies, decided}
 use Rattle.lists.specs.Truth.{or_neither, clash}
 use Rattle.diagrams.specs.Layout.{records, root_count}
@@ -20,11 +21,11 @@ use Rattle.slice_rules.proofs.Slices as over_laws
 use Rattle.slice_rules.specs.Slices.{Relay, RelayLaws, meets}
 use Rattle.check_sizes.specs.Sizes.{Sizes, sizes_if, sizes_then, bad_sizes}
 use Rattle.checks.specs.Stages.{Stage, AllPass, none, also, both_rows, rows_pass, stage_at, only_passed, passed_only}
-use Rattle.checks.specs.Stages.{FailsFirst, refusal, verdict_of, clear_if, clear_only, refused_if, refused_only}
+use Rattle.checks.specs.Stages.{FailsFirst, Verdict, refusal, verdict_of, clear_if, clear_only, refused_if, refused_only}
 use Rattle.checks.specs.Check.{order_stage}
 use Rattle.checks.specs.declared.Refusal.{Refusal}
-use Rattle.checks.specs.declared.Verdict.{Verdict}
-use Rattle.checks.specs.declared.Verdict.TheVariants as verdict
+use Rattle.checks.specs.declared.Fault.{Fault}
+use Rattle.checks.specs.declared.Fault.TheVariants.{BadOrder, BadTarget, NoPlan}
 use Rattle.undo.specs.Stores.{in_log, State, puts}
 use Rattle.undo.specs.Calls.{Call, Ended, whole, only}
 use Rattle.undo.specs.Mending.{puts_long}
@@ -41,15 +42,13 @@ use Rattle.swap_ways.specs.declared.Way.{Way}
 use Rattle.swap_ways.specs.declared.Way.TheVariants as way
 use Rattle.swap_ways.specs.declared.Lack.{Lack}
 use Rattle.swap_ways.specs.declared.Short.{Short}
-use Rattle.swaps.specs.declared.SwapAnswer.TheVariants as swap
 use Rattle.runs.specs.OneSwap.{OneSwap}
-use Rattle.runs.specs.Run.{stores_of, relay, bad_run_sizes, order_stages, store_stages, run_stages, answer_of, slice_answer}
+use Rattle.runs.specs.Run.{stores_of, relay, bad_run_sizes, order_stages, store_stages, run_stages, RunAnswer, answer_of, told, slice_answer}
 use Rattle.runs.specs.Run.{slice_call, run_judged, run_call, run_of, RunOutcome}
 use Rattle.runs.specs.Answers.{swaps_in, left_in, ran_to, answer_swaps, answer_left, answer_done, answer_paused}
-use Rattle.runs.specs.Answers.{answer_no_room, answer_log_short, answer_not_refused}
+use Rattle.runs.specs.Answers.{answer_no_room, answer_log_short}
 use Rattle.runs.proofs.Stores.{stores_leave, stores_few}
-use Rattle.runs.specs.declared.RunAnswer.{RunAnswer}
-use Rattle.runs.specs.declared.RunAnswer.TheVariants.{Done, NoRoom, LogShort, Paused, Refused}
+use Rattle.runs.specs.declared.Slice.TheVariants.{Done, NoRoom, LogShort, Paused}
 use Rattle.runs.specs.Theorems.{Good, Runnable, Startable}
 
 -- ---- what passes Run's checks
@@ -73,12 +72,15 @@ module _ (W : OneSwap) (s : State) (r g : List ℕ) where
 
   store_ready : AllPass before_13 → Runnable W s r g
   unfolding store_stages order_stages
-  store_ready (also h rest) = go (both_rows (open_stages s.log (records t) (length o)) (order_stage 2 o ∷ order_stage 3 g ∷ W.table_stages t r o) rest)
+  store_ready (also h rest) = go (both_rows (open_stages s.log (records t) (length o)) orders rest)
     where
       sizes : Sizes t r o × (length g ≡ length o)
       sizes = run_sizes t r o g (passed_only 0 h)
 
-      go : AllPass (open_stages s.log (records t) (length o)) × AllPass (order_stage 2 o ∷ order_stage 3 g ∷ W.table_stages t r o) → Runnable W s r g
+      orders : List Stage
+      orders = order_stage BadOrder o ∷ order_stage BadTarget g ∷ W.table_stages t r o
+
+      go : AllPass (open_stages s.log (records t) (length o)) × AllPass orders → Runnable W s r g
       go (unsealed, also p (also q last)) = record {
         usable = W.usable_if t r o (also (only_passed 0 (sizes_then t r o sizes.0)) (also p last));
         target = permutation_if g q;
@@ -99,7 +101,7 @@ module _ (W : OneSwap) (s : State) (r g : List ℕ) where
     stages = run_stages W number t r o g s.log
 
     abbrev plan_stage : List Stage
-    plan_stage = stage_at 13 number (no_plan number) ∷ []
+    plan_stage = stage_at NoPlan number (no_plan number) ∷ []
 
     plan_there : AllPass plan_stage → no_plan number ≡ false
     plan_there (also h none) = passed_only number h
@@ -165,32 +167,32 @@ module _ (W : OneSwap) (number : ℕ) (s : State) (r g : List ℕ) where
   run_one b p q = (ap (λ (e : Ended RunAnswer). e.answer) (p ∙ sym q), ap (λ (e : Ended RunAnswer). e.state) (p ∙ sym q))
 
   -- Run refuses with k at x exactly where check k fails at x, at no place before it, and every earlier check passes everywhere; it makes no store then
-  pub run_refuses : (b k x : ℕ) → FailsFirst (stages W s r g number) k x → run_call W number s r g b ≡ only (Refused (refusal k x))
+  pub run_refuses : (b : ℕ) (k : Fault) (x : ℕ) → FailsFirst (stages W s r g number) k x → run_call W number s r g b ≡ only (Err (refusal k x))
   unfolding run_call
   run_refuses b k x f = ap (run_judged W (plan_of number) s r g b) (refused_if (stages W s r g number) k x f)
 
-  pub run_refuses_only : (b k x : ℕ) → (run_call W number s r g b).answer ≡ Refused (refusal k x) → FailsFirst (stages W s r g number) k x
+  pub run_refuses_only : (b : ℕ) (k : Fault) (x : ℕ) → (run_call W number s r g b).answer ≡ Err (refusal k x) → FailsFirst (stages W s r g number) k x
   unfolding run_call
   run_refuses_only b k x e = refused_only (stages W s r g number) k x (go (verdict_of (stages W s r g number)) e)
     where
-      go : (v : Verdict) → (run_judged W (plan_of number) s r g b v).answer ≡ Refused (refusal k x) → v ≡ verdict.Refused (refusal k x)
-      go verdict.Clear q = answer_not_refused _ _ _ (refusal k x) q
-      go (verdict.Refused f) q = let p : f ≡ refusal k x = cc in ap verdict.Refused p
+      go : (v : Verdict) → (run_judged W (plan_of number) s r g b v).answer ≡ Err (refusal k x) → v ≡ Err (refusal k x)
+      go (Ok _) q = apart (cc)
+      go (Err f) q = cc
 
-  pub refused_keeps : (b : ℕ) (f : Refusal) → (run_call W number s r g b).answer ≡ Refused f → (run_of W number s r g b).state ≡ s
+  pub refused_keeps : (b : ℕ) (f : Refusal) → (run_call W number s r g b).answer ≡ Err f → (run_of W number s r g b).state ≡ s
   unfolding puts
   refused_keeps b f e =
-      ap (λ (c : Call RunAnswer). puts c.stores s) (run_refuses b f.number f.place (run_refuses_only b f.number f.place e))
+      ap (λ (c : Call RunAnswer). puts c.stores s) (run_refuses b f.fault f.place (run_refuses_only b f.fault f.place e))
 
   -- an answer that is no refusal comes from a table that can be used, a target of its variables and an empty log
-  pub run_startable : (b : ℕ) → ((f : Refusal) → (run_call W number s r g b).answer ≡ Refused f → ⊥) → Startable W number s r g
+  pub run_startable : (b : ℕ) → ((f : Refusal) → (run_call W number s r g b).answer ≡ Err f → ⊥) → Startable W number s r g
   unfolding run_call
   run_startable b n = go (verdict_of (stages W s r g number)) refl n
     where
       go : (v : Verdict) → verdict_of (stages W s r g number) ≡ v
-          → ((f : Refusal) → (run_judged W (plan_of number) s r g b v).answer ≡ Refused f → ⊥) → Startable W number s r g
-      go verdict.Clear e m = run_starts W s r g number (clear_only (stages W s r g number) e)
-      go (verdict.Refused f) e m = absurd (m f refl)
+          → ((f : Refusal) → (run_judged W (plan_of number) s r g b v).answer ≡ Err f → ⊥) → Startable W number s r g
+      go (Ok _) e m = run_starts W s r g number (clear_only (stages W s r g number) e)
+      go (Err f) e m = absurd (m f refl)
 
 -- ---- a run that starts
 
@@ -269,7 +271,7 @@ module _ (W : OneSwap) (number : ℕ) (s₀ : State) (r g : List ℕ) (starts : 
 
   -- each swap that a run makes is Swap's, with the same stores
   pub goes_made : (s : State) → Good W r (length g) s → over.goes R plan g s ≡ true
-      → W.swap_call s r (over.next R plan g s) ≡ record { answer = swap.Made; stores = stores_of W r s (over.next R plan g s) }
+      → W.swap_call s r (over.next R plan g s) ≡ record { answer = Ok way.Clear; stores = stores_of W r s (over.next R plan g s) }
   unfolding relay
   goes_made s w e =
       let (a, f) = over_laws.goes_on R plan g s e in
@@ -350,7 +352,7 @@ module _ (W : OneSwap) (number : ℕ) (s₀ : State) (r g : List ℕ) (starts : 
   abbrev met : ℕ → Way
   met b = W.way_of (ran b).state.table r (ran b).state.order (entries_held (ran b).state.log) (plan (ran b).state.order g)
 
-  run_judged_lem : (b : ℕ) → (ran b).answer ≡ answer_of (swaps_in (ran b).answer) (left (ran b).state.order g) (over.judge R plan g (end b))
+  run_judged_lem : (b : ℕ) → (ran b).answer ≡ told (swaps_in (ran b).answer) (left (ran b).state.order g) (over.judge R plan g (end b))
   unfolding ran_to over.slice relay
   run_judged_lem b = ap (λ (w : Ended RunAnswer). w.answer) (run_is b) ∙ rw (run_made b, run_order b)
 
@@ -359,12 +361,12 @@ module _ (W : OneSwap) (number : ℕ) (s₀ : State) (r g : List ℕ) (starts : 
   arrived_says b = rw (run_order b) (over_laws.arrived_says R plan g (Good W r (length g)) laws lawful starts.ready.target (end b) (good_end b))
 
   -- it is done where the order left is the target
-  pub run_arrives : (b : ℕ) → (ran b).state.order ≡ g → (ran b).answer ≡ Done (swaps_in (ran b).answer) 0
+  pub run_arrives : (b : ℕ) → (ran b).state.order ≡ g → (ran b).answer ≡ Ok (Done (swaps_in (ran b).answer) 0)
   unfolding answer_of
   run_arrives b e =
       run_judged_lem b
-      ∙ ap (answer_of (swaps_in (ran b).answer) (left (ran b).state.order g)) (over_laws.arrived_done R plan g (end b) ((arrived_says b).no e))
-      ∙ ap (Done (swaps_in (ran b).answer)) (ap (λ p. left p g) e ∙ left_same g)
+      ∙ ap (told (swaps_in (ran b).answer) (left (ran b).state.order g)) (over_laws.arrived_done R plan g (end b) ((arrived_says b).no e))
+      ∙ ap (λ l. Ok (Done (swaps_in (ran b).answer) l)) (ap (λ p. left p g) e ∙ left_same g)
 
   meets_met : (b : ℕ) → ((ran b).state.order ≡ g → ⊥) → over.judge R plan g (end b) ≡ meets (met b)
   unfolding over.next relay
@@ -373,14 +375,14 @@ module _ (W : OneSwap) (number : ℕ) (s₀ : State) (r g : List ℕ) (starts : 
       ∙ ap (λ (s : State). meets (W.way_of s.table r s.order (entries_held s.log) (plan s.order g))) (sym (run_state b))
 
   -- otherwise the answer is what stands in the way of the plan's next swap
-  pub run_meets : (b : ℕ) → ((ran b).state.order ≡ g → ⊥) → (ran b).answer ≡ answer_of (swaps_in (ran b).answer) (left (ran b).state.order g) (meets (met b))
-  run_meets b n = run_judged_lem b ∙ ap (answer_of (swaps_in (ran b).answer) (left (ran b).state.order g)) (meets_met b n)
+  pub run_meets : (b : ℕ) → ((ran b).state.order ≡ g → ⊥) → (ran b).answer ≡ told (swaps_in (ran b).answer) (left (ran b).state.order g) (meets (met b))
+  run_meets b n = run_judged_lem b ∙ ap (told (swaps_in (ran b).answer) (left (ran b).state.order g)) (meets_met b n)
 
   -- no room where the plan's next swap lacks room
   pub run_stuck : (b : ℕ) → ((ran b).state.order ≡ g → ⊥) → (lack : Lack) → met b ≡ way.NoRoom lack
-      → (ran b).answer ≡ NoRoom (swaps_in (ran b).answer) (left (ran b).state.order g) lack
+      → (ran b).answer ≡ Ok (NoRoom (swaps_in (ran b).answer) (left (ran b).state.order g) lack)
   unfolding answer_of
-  run_stuck b n lack e = run_meets b n ∙ ap (λ w. answer_of (swaps_in (ran b).answer) (left (ran b).state.order g) (meets w)) e
+  run_stuck b n lack e = run_meets b n ∙ ap (λ w. told (swaps_in (ran b).answer) (left (ran b).state.order g) (meets w)) e
 
   -- a judgement of the state left, as the buffers have it
   met_only : (b : ℕ) (w : Way) → over.judge R plan g (end b) ≡ meets w → ((ran b).state.order ≡ g → ⊥) × (met b ≡ w)
@@ -390,7 +392,7 @@ module _ (W : OneSwap) (number : ℕ) (s₀ : State) (r g : List ℕ) (starts : 
       (refutes (arrived_says b) a, ap (λ (s : State). W.way_of s.table r s.order (entries_held s.log) (plan s.order g)) (run_state b) ∙ sym q)
 
   -- done: the target is reached, and as many swaps were made as there were inversions
-  pub run_done : (b m l : ℕ) → (ran b).answer ≡ Done m l → ((ran b).state.order ≡ g) × (m ≡ left s₀.order g) × (l ≡ 0)
+  pub run_done : (b m l : ℕ) → (ran b).answer ≡ Ok (Done m l) → ((ran b).state.order ≡ g) × (m ≡ left s₀.order g) × (l ≡ 0)
   run_done b m l e =
       let (j, p, q) = answer_done _ _ _ m l (sym (run_judged_lem b) ∙ e) in
       let order : (ran b).state.order ≡ g = (arrived_says b).yes (over_laws.done_arrived R plan g (end b) j) in
@@ -403,37 +405,37 @@ module _ (W : OneSwap) (number : ℕ) (s₀ : State) (r g : List ℕ) (starts : 
   run_inside b n = rw (run_order b) (next_inside (end b) (good_end b) (denies (arrived_says b) n))
 
   -- no room: the target isn't reached, and the plan's next swap lacks room, by these numbers
-  pub run_lacks : (b m l : ℕ) (lack : Lack) → (ran b).answer ≡ NoRoom m l lack → ((ran b).state.order ≡ g → ⊥) × (met b ≡ way.NoRoom lack)
+  pub run_lacks : (b m l : ℕ) (lack : Lack) → (ran b).answer ≡ Ok (NoRoom m l lack) → ((ran b).state.order ≡ g → ⊥) × (met b ≡ way.NoRoom lack)
   run_lacks b m l lack e =
       let (j, p, q) = answer_no_room _ _ _ m l lack (sym (run_judged_lem b) ∙ e) in
       met_only b (way.NoRoom lack) j
 
   -- and then Swap, asked for that swap of the buffers left, answers the same and changes nothing
-  pub run_lacks_swap : (b m l : ℕ) (lack : Lack) → (ran b).answer ≡ NoRoom m l lack
-      → W.swap_call (ran b).state r (plan (ran b).state.order g) ≡ only (swap.NoRoom lack)
+  pub run_lacks_swap : (b m l : ℕ) (lack : Lack) → (ran b).answer ≡ Ok (NoRoom m l lack)
+      → W.swap_call (ran b).state r (plan (ran b).state.order g) ≡ only (Ok (way.NoRoom lack))
   run_lacks_swap b m l lack e =
       let (n, w) = run_lacks b m l lack e in
       W.swap_stuck (ran b).state r (plan (ran b).state.order g) (run_usable b) (run_inside b n) (run_open b) lack w
 
   -- log short: the target isn't reached, the plan's next swap has room, and the log is too short for it, by these numbers
-  pub run_shorts : (b m l : ℕ) (short : Short) → (ran b).answer ≡ LogShort m l short → ((ran b).state.order ≡ g → ⊥) × (met b ≡ way.LogShort short)
+  pub run_shorts : (b m l : ℕ) (short : Short) → (ran b).answer ≡ Ok (LogShort m l short) → ((ran b).state.order ≡ g → ⊥) × (met b ≡ way.LogShort short)
   run_shorts b m l short e =
       let (j, p, q) = answer_log_short _ _ _ m l short (sym (run_judged_lem b) ∙ e) in
       met_only b (way.LogShort short) j
 
   pub run_short : (b : ℕ) → ((ran b).state.order ≡ g → ⊥) → (short : Short) → met b ≡ way.LogShort short
-      → (ran b).answer ≡ LogShort (swaps_in (ran b).answer) (left (ran b).state.order g) short
+      → (ran b).answer ≡ Ok (LogShort (swaps_in (ran b).answer) (left (ran b).state.order g) short)
   unfolding answer_of
-  run_short b n short e = run_meets b n ∙ ap (λ w. answer_of (swaps_in (ran b).answer) (left (ran b).state.order g) (meets w)) e
+  run_short b n short e = run_meets b n ∙ ap (λ w. told (swaps_in (ran b).answer) (left (ran b).state.order g) (meets w)) e
 
-  pub run_shorts_swap : (b m l : ℕ) (short : Short) → (ran b).answer ≡ LogShort m l short
-      → W.swap_call (ran b).state r (plan (ran b).state.order g) ≡ only (swap.LogShort short)
+  pub run_shorts_swap : (b m l : ℕ) (short : Short) → (ran b).answer ≡ Ok (LogShort m l short)
+      → W.swap_call (ran b).state r (plan (ran b).state.order g) ≡ only (Ok (way.LogShort short))
   run_shorts_swap b m l short e =
       let (n, w) = run_shorts b m l short e in
       W.swap_short (ran b).state r (plan (ran b).state.order g) (run_usable b) (run_inside b n) (run_open b) short w
 
   -- paused: the target isn't reached, nothing stands in the way of the plan's next swap, and exactly the budget of swaps was made
-  pub run_paused : (b m l : ℕ) → (ran b).answer ≡ Paused m l → ((ran b).state.order ≡ g → ⊥) × (met b ≡ way.Clear) × (m ≡ b)
+  pub run_paused : (b m l : ℕ) → (ran b).answer ≡ Ok (Paused m l) → ((ran b).state.order ≡ g → ⊥) × (met b ≡ way.Clear) × (m ≡ b)
   unfolding relay
   run_paused b m l e =
       let (j, p, q) = answer_paused _ _ _ m l (sym (run_judged_lem b) ∙ e) in
@@ -441,15 +443,16 @@ module _ (W : OneSwap) (number : ℕ) (s₀ : State) (r g : List ℕ) (starts : 
       (n, w, p ∙ run_made b ∙ over_laws.paused_budget R plan g b s₀ way.Clear j refl)
 
   -- each run spends its whole budget or ends in done or no room
-  pub run_spends : (b : ℕ) → (swaps_in (ran b).answer ≡ b) ⊎ ((m l : ℕ) → (ran b).answer ≡ Paused m l → ⊥)
+  pub run_spends : (b : ℕ) → (swaps_in (ran b).answer ≡ b) ⊎ ((m l : ℕ) → (ran b).answer ≡ Ok (Paused m l) → ⊥)
   run_spends b = go (decided (says_eqb (swaps_in (ran b).answer) b))
     where
-      go : (swaps_in (ran b).answer ≡ b) ⊎ (swaps_in (ran b).answer ≡ b → ⊥) → (swaps_in (ran b).answer ≡ b) ⊎ ((m l : ℕ) → (ran b).answer ≡ Paused m l → ⊥)
+      go : (swaps_in (ran b).answer ≡ b) ⊎ (swaps_in (ran b).answer ≡ b → ⊥)
+          → (swaps_in (ran b).answer ≡ b) ⊎ ((m l : ℕ) → (ran b).answer ≡ Ok (Paused m l) → ⊥)
       go (inl q) = inl q
       go (inr n) = inr (λ m l e. n (ap swaps_in e ∙ (run_paused b m l e).2))
 
   -- with a budget of at least left a run is never paused
-  pub run_enough : (b m l : ℕ) → left s₀.order g ≤ b → (ran b).answer ≡ Paused m l → ⊥
+  pub run_enough : (b m l : ℕ) → left s₀.order g ≤ b → (ran b).answer ≡ Ok (Paused m l) → ⊥
   unfolding relay
   run_enough b m l h e =
       let (j, p, q) = answer_paused _ _ _ m l (sym (run_judged_lem b) ∙ e) in
@@ -464,7 +467,7 @@ unfolding run_call
 few_stores W number s r g b = go (verdict_of (stages W s r g number)) refl
   where
     go : (v : Verdict) → verdict_of (stages W s r g number) ≡ v → length (run_judged W (plan_of number) s r g b v).stores ≤ b * enough
-    go verdict.Clear e =
+    go (Ok _) e =
         let starts = run_starts W s r g number (clear_only (stages W s r g number) e) in
         stores_few W (plan_of number) r g b s (open_sizes starts.ready.log_open).few
-    go (verdict.Refused f) e = omega arith
+    go (Err f) e = omega arith

@@ -1,6 +1,6 @@
 -- What a run needs of one swap of a stored table: a few definitions over the bytes, and a few facts of them. An edition of the table gives its own;
 -- `plain_swap` is that of the plain one.
-use Rattle.std.specs.Prelude.{ℕ, ◌+◌, ◌≤◌, ◌<◌, Bool, true, List, ◌∷◌, ◌≡◌, length}
+use Rattle.std.specs.Prelude.{ℕ, ◌+◌, ◌≤◌, ◌<◌, Bool, true, List, ◌∷◌, ◌≡◌, length, Ok}
 use Rattle.std.proofs.Common.{ap, sym, ◌∙◌}
 use Rattle.diagrams.specs.Layout.{root_count, root_at}
 use Rattle.diagrams.specs.Lookup.{lookup}
@@ -11,6 +11,7 @@ use Rattle.check_sizes.specs.Sizes.{bad_sizes, Sizes}
 use Rattle.checks.specs.Stages.{Stage, stage_at, AllPass, also}
 use Rattle.checks.specs.Check as check
 use Rattle.checks.specs.Check.{order_stage, check_stages}
+use Rattle.checks.specs.declared.Fault.TheVariants.{BadSizes, BadOrder}
 use Rattle.checks.specs.Usable as checked
 use Rattle.checks.proofs.Usable as checks_laws
 use Rattle.checks.proofs.Usable.{usable_then, all_pass, passes_all}
@@ -22,7 +23,7 @@ use Rattle.swap_rules.specs.Swap.{x_at, y_at}
 use Rattle.swap_ways.specs.Ways as ways
 use Rattle.swaps.specs.Outcome as outcome
 use Rattle.swap_ways.specs.Ways.{is_clear, way_clear}
-use Rattle.swaps.specs.Outcome.{swap_after}
+use Rattle.swaps.specs.Outcome.{SwapAnswer, swap_after}
 use Rattle.swaps.specs.Bytes.{length_after, swap_usable, swap_root_value}
 use Rattle.swaps.specs.Work.{Swappable}
 use Rattle.swaps.proofs.Entry as entry
@@ -32,8 +33,6 @@ use Rattle.swap_ways.specs.declared.Way.{Way}
 use Rattle.swap_ways.specs.declared.Way.TheVariants as way
 use Rattle.swap_ways.specs.declared.Lack.{Lack}
 use Rattle.swap_ways.specs.declared.Short.{Short}
-use Rattle.swaps.specs.declared.SwapAnswer.{SwapAnswer}
-use Rattle.swaps.specs.declared.SwapAnswer.TheVariants.{Made, NoRoom, LogShort}
 
 pub record OneSwap : Type 1 where
   -- checks 4 to 9, of a table with its roots and order
@@ -47,7 +46,7 @@ pub record OneSwap : Type 1 where
   -- the value of the root at a position, in a table of n variables
   pub root_value : List ℕ → List ℕ → ℕ → (ℕ → Bool) → ℕ → Bool
   -- the table can be used exactly where it passes the checks
-  pub usable_if : (t r o : List ℕ) → AllPass (stage_at 1 0 (bad_sizes t r o) ∷ order_stage 2 o ∷ table_stages t r o) → Usable t r o
+  pub usable_if : (t r o : List ℕ) → AllPass (stage_at BadSizes 0 (bad_sizes t r o) ∷ order_stage BadOrder o ∷ table_stages t r o) → Usable t r o
   pub usable_passes : (t r o : List ℕ) → Usable t r o → AllPass (table_stages t r o)
   pub sizes : (t r o : List ℕ) → Usable t r o → Sizes t r o
   pub permutation : (t r o : List ℕ) → Usable t r o → Permutation o
@@ -63,11 +62,11 @@ pub record OneSwap : Type 1 where
   -- with an empty log Swap makes it, or says what stands in the way and makes no store
   pub swap_clear : (s : State) (r : List ℕ) (k : ℕ) → Usable s.table r s.order → k + 1 < length s.order → Open s.log
       → is_clear (way_of s.table r s.order (entries_held s.log) k) ≡ true
-      → swap_call s r k ≡ record { answer = Made; stores = swap_stores s (table_after s.table r s.order k) k }
+      → swap_call s r k ≡ record { answer = Ok way.Clear; stores = swap_stores s (table_after s.table r s.order k) k }
   pub swap_stuck : (s : State) (r : List ℕ) (k : ℕ) → Usable s.table r s.order → k + 1 < length s.order → Open s.log
-      → (l : Lack) → way_of s.table r s.order (entries_held s.log) k ≡ way.NoRoom l → swap_call s r k ≡ only (NoRoom l)
+      → (l : Lack) → way_of s.table r s.order (entries_held s.log) k ≡ way.NoRoom l → swap_call s r k ≡ only (Ok (way.NoRoom l))
   pub swap_short : (s : State) (r : List ℕ) (k : ℕ) → Usable s.table r s.order → k + 1 < length s.order → Open s.log
-      → (l : Short) → way_of s.table r s.order (entries_held s.log) k ≡ way.LogShort l → swap_call s r k ≡ only (LogShort l)
+      → (l : Short) → way_of s.table r s.order (entries_held s.log) k ≡ way.LogShort l → swap_call s r k ≡ only (Ok (way.LogShort l))
 
 -- ---- the plain edition
 
@@ -75,7 +74,7 @@ pub table_passes : (t r o : List ℕ) → AllPass (check_stages t r o) → AllPa
 unfolding check_stages
 table_passes t r o (also h (also p rest)) = rest
 
-pub plain_usable : (t r o : List ℕ) → AllPass (stage_at 1 0 (bad_sizes t r o) ∷ order_stage 2 o ∷ check.table_stages t r o) → checked.Usable t r o
+pub plain_usable : (t r o : List ℕ) → AllPass (stage_at BadSizes 0 (bad_sizes t r o) ∷ order_stage BadOrder o ∷ check.table_stages t r o) → checked.Usable t r o
 unfolding check_stages
 plain_usable t r o p = checks_laws.usable_if t r o (passes_all t r o p)
 
@@ -84,13 +83,13 @@ module _ (s : State) (r : List ℕ) (k : ℕ) (u : checked.Usable s.table r s.or
   able = record { usable = u; level = l; log_open = p }
 
   pub plain_clear : is_clear (outcome.swap_way s r k) ≡ true
-      → outcome.swap_call s r k ≡ record { answer = Made; stores = swap_stores s (ways.table_after s.table r s.order k) k }
+      → outcome.swap_call s r k ≡ record { answer = Ok way.Clear; stores = swap_stores s (ways.table_after s.table r s.order k) k }
   plain_clear e = call_is s r k able ∙ ap (swap_after s r k) (way_clear s.table r s.order (entries_held s.log) k e)
 
-  pub plain_stuck : (l : Lack) → outcome.swap_way s r k ≡ way.NoRoom l → outcome.swap_call s r k ≡ only (NoRoom l)
+  pub plain_stuck : (l : Lack) → outcome.swap_way s r k ≡ way.NoRoom l → outcome.swap_call s r k ≡ only (Ok (way.NoRoom l))
   plain_stuck l e = entry.swap_stuck s r k able l e
 
-  pub plain_short : (l : Short) → outcome.swap_way s r k ≡ way.LogShort l → outcome.swap_call s r k ≡ only (LogShort l)
+  pub plain_short : (l : Short) → outcome.swap_way s r k ≡ way.LogShort l → outcome.swap_call s r k ≡ only (Ok (way.LogShort l))
   plain_short l e = entry.swap_short s r k able l e
 
 pub plain_long : (t r o : List ℕ) (k : ℕ) → checked.Usable t r o → length t ≡ length (ways.table_after t r o k)

@@ -1,17 +1,18 @@
 -- Run: one slice towards the target, by the plan with a number, with a budget. It is done, or without room, or its log is short, or it is paused, or refused
 -- with 1, 14, 15, 2 to 9 or 13. The whole outcome, over the bytes, for any edition of the table.
 -- docs/RULES.md, 3, 5 and 7.
-use Rattle.std.specs.Prelude.{ℕ, zero, suc, Bool, cond, not, ◌||◌, List, [], ◌∷◌, ◌++◌, ◌≡◌, eqb, length}
+use Rattle.std.specs.Prelude.{ℕ, zero, suc, Bool, cond, not, ◌||◌, List, [], ◌∷◌, ◌++◌, ◌≡◌, eqb, length, Result, Ok, Err, MatchResult}
 use Rattle.diagrams.specs.Layout.{records}
 use Rattle.plans.specs.Plans.{Plan}
-use Rattle.plans.specs.Numbered.{plan_of, no_plan}
+use Rattle.plans.specs.Numbered.{plan_of, no_plan, meant}
+use Rattle.plans.specs.declared.Plan as coded
 use Rattle.slice_rules.specs.Slices as over
 use Rattle.slice_rules.specs.Slices.{Relay, Judgement, done, meets, SliceOf}
 use Rattle.check_sizes.specs.Sizes.{bad_sizes}
-use Rattle.checks.specs.Stages.{Stage, stage_at, verdict_of}
+use Rattle.checks.specs.Stages.{number, Verdict, clear, Stage, stage_at, verdict_of}
 use Rattle.checks.specs.Check.{order_stage}
-use Rattle.checks.specs.declared.Verdict.{Verdict}
-use Rattle.checks.specs.declared.Verdict.TheVariants as verdict
+use Rattle.checks.specs.declared.Refusal.{Refusal}
+use Rattle.checks.specs.declared.Fault.TheVariants.{BadSizes, BadOrder, BadTarget, NoPlan}
 use Rattle.undo.specs.Stores.{State, Store, puts}
 use Rattle.undo.specs.Calls.{Call, Ended, whole, cut, only}
 use Rattle.undo.specs.Log.{entries_held, swap_stores}
@@ -20,8 +21,8 @@ use Rattle.swap_ways.specs.Ways.{is_clear}
 use Rattle.swap_ways.specs.declared.Way.{Way}
 use Rattle.swap_ways.specs.declared.Way.TheVariants as way
 use Rattle.runs.specs.OneSwap.{OneSwap}
-use Rattle.runs.specs.declared.RunAnswer.{RunAnswer}
-use Rattle.runs.specs.declared.RunAnswer.TheVariants.{Done, NoRoom, LogShort, Paused, Refused}
+use Rattle.runs.specs.declared.Slice.{Slice}
+use Rattle.runs.specs.declared.Slice.TheVariants.{Done, NoRoom, LogShort, Paused}
 
 -- ---- what a slice drives: the three buffers, over the same roots
 
@@ -49,23 +50,35 @@ unfoldable pub bad_run_sizes : List ℕ → List ℕ → List ℕ → List ℕ �
 bad_run_sizes t r o g = bad_sizes t r o || not (eqb (length g) (length o))
 
 unfoldable pub order_stages : OneSwap → List ℕ → List ℕ → List ℕ → List ℕ → List Stage
-order_stages W t r o g = order_stage 2 o ∷ order_stage 3 g ∷ W.table_stages t r o
+order_stages W t r o g = order_stage BadOrder o ∷ order_stage BadTarget g ∷ W.table_stages t r o
 
 unfoldable pub store_stages : OneSwap → List ℕ → List ℕ → List ℕ → List ℕ → List ℕ → List Stage
-store_stages W t r o g log = stage_at 1 0 (bad_run_sizes t r o g) ∷ (open_stages log (records t) (length o) ++ order_stages W t r o g)
+store_stages W t r o g log = stage_at BadSizes 0 (bad_run_sizes t r o g) ∷ (open_stages log (records t) (length o) ++ order_stages W t r o g)
 
 unfoldable pub run_stages : OneSwap → ℕ → List ℕ → List ℕ → List ℕ → List ℕ → List ℕ → List Stage
-run_stages W number t r o g log = store_stages W t r o g log ++ (stage_at 13 number (no_plan number) ∷ [])
+run_stages W number t r o g log = store_stages W t r o g log ++ (stage_at NoPlan number (no_plan number) ∷ [])
+
+-- what a row of them answers that ends with this one: the plan with this number, where all pass
+abbrev pub Planned : ℕ → List Stage → Result coded.Plan Refusal → Type 0
+Planned number ss r = MatchResult r (λ plan. (verdict_of ss ≡ clear) × (meant plan ≡ plan_of number)) (λ w. verdict_of ss ≡ Err w)
 
 -- ---- the answer, judged on the state left: done where the order is the target, else what stands in the way of the next planned swap, else paused
-unfoldable pub answer_of : ℕ → ℕ → Judgement Way → RunAnswer
+unfoldable pub answer_of : ℕ → ℕ → Judgement Way → Slice
 answer_of swaps left done = Done swaps left
 answer_of swaps left (meets (way.NoRoom lack)) = NoRoom swaps left lack
 answer_of swaps left (meets (way.LogShort short)) = LogShort swaps left short
 answer_of swaps left (meets way.Clear) = Paused swaps left
 
+-- what Run answers: what the slice came to, or a refusal
+abbrev pub RunAnswer : Type 0
+RunAnswer = Result Slice Refusal
+
+-- the answer of a slice that is judged so
+abbrev pub told : ℕ → ℕ → Judgement Way → RunAnswer
+told swaps left j = Ok (answer_of swaps left j)
+
 abbrev pub slice_answer : SliceOf State Way → RunAnswer
-slice_answer w = answer_of w.swaps w.left w.judgement
+slice_answer w = told w.swaps w.left w.judgement
 
 module _ (W : OneSwap) (plan : Plan) (s : State) (r g : List ℕ) (budget : ℕ) where
   -- a slice that no check refuses
@@ -74,8 +87,8 @@ module _ (W : OneSwap) (plan : Plan) (s : State) (r g : List ℕ) (budget : ℕ)
 
   -- a refusal makes no store
   abbrev pub run_judged : Verdict → Call RunAnswer
-  run_judged verdict.Clear = slice_call
-  run_judged (verdict.Refused f) = only (Refused f)
+  run_judged (Ok _) = slice_call
+  run_judged (Err w) = only (Err w)
 
 -- by the plan with a number
 module _ (W : OneSwap) (number : ℕ) where
@@ -95,8 +108,8 @@ module _ (W : OneSwap) (number : ℕ) where
 
 -- the numbers of each answer: 0 stands for done, 100 for no room, 101 for paused and 102 for log short
 abbrev pub numbers : RunAnswer → List ℕ
-numbers (Done swaps left) = 0 ∷ swaps ∷ left ∷ []
-numbers (NoRoom swaps left lack) = 100 ∷ swaps ∷ left ∷ lack.level ∷ lack.needed ∷ lack.free ∷ []
-numbers (LogShort swaps left short) = 102 ∷ swaps ∷ left ∷ short.level ∷ short.needed ∷ short.held ∷ []
-numbers (Paused swaps left) = 101 ∷ swaps ∷ left ∷ []
-numbers (Refused f) = f.number ∷ f.place ∷ []
+numbers (Ok (Done swaps left)) = 0 ∷ swaps ∷ left ∷ []
+numbers (Ok (NoRoom swaps left lack)) = 100 ∷ swaps ∷ left ∷ lack.level ∷ lack.needed ∷ lack.free ∷ []
+numbers (Ok (LogShort swaps left short)) = 102 ∷ swaps ∷ left ∷ short.level ∷ short.needed ∷ short.held ∷ []
+numbers (Ok (Paused swaps left)) = 101 ∷ swaps ∷ left ∷ []
+numbers (Err w) = number w.fault ∷ w.place ∷ []

@@ -1,11 +1,8 @@
 -- What Run answers and leaves, over the bytes, by the plan with any number: one outcome for each input; when it refuses; the table can be used again and every
 -- root keeps its value; the orders are the plan's; what each answer says.
-use Prim.Native.Nat.{ℕ, ◌+◌, ◌*◌, ◌≤◌, ◌<◌}
-use Rattle.std.specs.Prelude.{Bool, true, not, List, [], ◌∷◌, ◌⊎◌, ◌≡◌, eqb}
+use Prim.Native.Nat.{ℕ}
+use Rattle.std.specs.Prelude.{List, ◌≡◌}
 use Rattle.std.proofs.Math.Bool.{false}
-use Rattle.std.proofs.Common.{inl, inr, ◌∙◌, arith}
-use Rattle.std.proofs.Math.Path.{refl, ap, sym}
-use borrow.Author.Tests.{eq-eqb, eqb-true, not-false}
 use Rattle.std.proofs.Math.ListN.{length}
 use Rattle.orders.specs.Permutation.{Permutation}
 use Rattle.plans.specs.Numbered.{no_plan}

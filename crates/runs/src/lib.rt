@@ -1,18 +1,21 @@
 // Run: its answer, and its checks. What it answers and leaves is in the definitions beside it; the slice itself is in `slices`.
 #![tactic(auto)]
 
-ghost use Rattle.std.specs.Prelude.{[], ◌∷◌, ◌≡◌, false};
+ghost use Rattle.std.specs.Prelude.{◌≡◌, false, [], ◌∷◌};
 ghost use Rattle.plans.specs.Numbered.{no_plan};
 ghost use Rattle.check_sizes.specs.Sizes.{bad_sizes};
 ghost use Rattle.checks.specs.Stages.{stage_at, verdict_of};
+ghost use Rattle.checks.specs.declared.Fault.TheVariants as fault;
 ghost use Rattle.runs.specs.OneSwap.{plain_swap};
-ghost use Rattle.runs.specs.Run.{bad_run_sizes, order_stages, store_stages, run_stages};
+ghost use Rattle.runs.specs.Run.{bad_run_sizes, order_stages, store_stages, run_stages, Planned};
 
-use checks::{Refusal, Verdict};
+use checks::{Fault, Refusal};
+use plans::{NoPlan, Plan};
 use swap_ways::{Lack, Short};
 
-#[derive(Clone, Copy)]
-pub enum RunAnswer {
+// What a slice came to: the swaps that it made, the inversions left, and why it ended.
+#[derive(Clone, Copy, PartialEq, Eq)]
+pub enum Slice {
     Done {
         swaps: usize,
         left: usize,
@@ -31,36 +34,24 @@ pub enum RunAnswer {
         swaps: usize,
         left: usize,
     },
-    Refused(Refusal),
 }
 
 // ---- 1, 14, 15, 2 to 9, and 13
 
+#[tactic(auto, unfolding(crate::specs::Run::bad_run_sizes))]
 fn bad_run_sizes(table: &[u8], roots: &[u8], order: &[u8], target: &[u8]) -> bool
     ensures { result ≡ bad_run_sizes table.now roots.now order.now target.now }
 {
-    check_sizes::bad_sizes(table, roots, order) | !(target.len() == order.len())
+    check_sizes::bad_sizes(table, roots, order) || target.len() != order.len()
 }
 
 // Checks 2 and 3, and then 4 to 9, once the sizes are known to be right.
-fn verdict_of_orders(table: &[u8], roots: &[u8], order: &[u8], target: &[u8]) -> Verdict
+fn verdict_of_orders(table: &[u8], roots: &[u8], order: &[u8], target: &[u8]) -> Result<(), Refusal>
     requires { bad_sizes table.now roots.now order.now ≡ false }
     ensures { result ≡ verdict_of (order_stages plain_swap table.now roots.now order.now target.now) }
 {
-    let bad_order = check_permutation::first_bad_place(order);
-    if bad_order < order.len() {
-        return Verdict::Refused(Refusal {
-            number: 2,
-            place: bad_order,
-        });
-    }
-    let bad_target = check_permutation::first_bad_place(target);
-    if bad_target < target.len() {
-        return Verdict::Refused(Refusal {
-            number: 3,
-            place: bad_target,
-        });
-    }
+    Fault::BadOrder.refuse_at(check_permutation::first_bad_place(order))?;
+    Fault::BadTarget.refuse_at(check_permutation::first_bad_place(target))?;
     checks::verdict_of_table(table, roots, order)
 }
 
@@ -71,46 +62,35 @@ pub fn verdict_of_store(
     order: &[u8],
     target: &[u8],
     log: &[u8],
-) -> Verdict
+) -> Result<(), Refusal>
     ensures { result ≡ verdict_of (store_stages plain_swap table.now roots.now order.now target.now log.now) }
 {
-    if bad_run_sizes(table, roots, order, target) {
-        return Verdict::Refused(Refusal {
-            number: 1,
-            place: 0,
-        });
-    }
-    match check_log::verdict_of_open_log(log, diagrams::count_records(table), order.len()) {
-        Verdict::Refused(refusal) => Verdict::Refused(refusal),
-        Verdict::Clear => verdict_of_orders(table, roots, order, target),
-    }
+    Fault::BadSizes.refuse_if(bad_run_sizes(table, roots, order, target), 0)?;
+    check_log::verdict_of_open_log(log, diagrams::count_records(table), order.len())?;
+    verdict_of_orders(table, roots, order, target)
 }
 
-// 13: no plan has this number.
-fn verdict_of_plan(plan: usize) -> Verdict
-    ensures { result ≡ verdict_of (stage_at 13 plan (no_plan plan) ∷ []) }
+// 13: the plan with this number, if there is one.
+fn plan_numbered(number: usize) -> Result<Plan, Refusal>
+    ensures { Planned number (stage_at fault.NoPlan number (no_plan number) ∷ []) result }
 {
-    if plans::no_plan(plan) {
-        return Verdict::Refused(Refusal {
-            number: 13,
-            place: plan,
-        });
-    }
-    Verdict::Clear
+    Plan::try_from(number).map_err(|NoPlan(place)| Refusal {
+        fault: Fault::NoPlan,
+        place,
+    })
 }
 
+// All checks; the plan, where they pass.
 pub fn verdict_of_run(
     table: &[u8],
     roots: &[u8],
     order: &[u8],
     target: &[u8],
     log: &[u8],
-    plan: usize,
-) -> Verdict
-    ensures { result ≡ verdict_of (run_stages plain_swap plan table.now roots.now order.now target.now log.now) }
+    number: usize,
+) -> Result<Plan, Refusal>
+    ensures { Planned number (run_stages plain_swap number table.now roots.now order.now target.now log.now) result }
 {
-    match verdict_of_store(table, roots, order, target, log) {
-        Verdict::Refused(refusal) => Verdict::Refused(refusal),
-        Verdict::Clear => verdict_of_plan(plan),
-    }
+    verdict_of_store(table, roots, order, target, log)?;
+    plan_numbered(number)
 }
