@@ -11,7 +11,7 @@ ghost use Rattle.check_log.specs.Slots.{misplaced, slot_at, Sized, Placeable};
 use checks::{Fault, Refusal};
 use diagrams::MOST_RECORDS;
 use orders::Order;
-use pen::{ENTRY_SIZE, MOST_LOG_RECORDS, SEAL_MARK};
+use pen::{ENTRY_SIZE, Kind, MOST_LOG_RECORDS, SEAL_MARK};
 
 // A slot for each record that an entry may be of, and one for each pair.
 const SLOTS: usize = MOST_RECORDS + Order::CEILING;
@@ -65,9 +65,9 @@ fn is_malformed(log: &[u8], k: usize) -> bool
 {
     let at = ENTRY_SIZE * k;
     log[at] != 0
-        || 1 < log[at + 1]
+        || (Kind::Pair as u8) < log[at + 1]
         || some_byte(log, at + 12, 4)
-        || log[at + 1] == 1 && some_byte(log, at + 6, 6)
+        || log[at + 1] == Kind::Pair as u8 && some_byte(log, at + 6, 6)
 }
 
 #[tactic(auto, unfolding(crate::specs::BadLog::past))]
@@ -77,7 +77,7 @@ fn is_past(log: &[u8], records: usize, levels: usize, k: usize) -> bool
 {
     let at = ENTRY_SIZE * k;
     let number = diagrams::pair(log, at + 2);
-    if log[at + 1] == 0 {
+    if log[at + 1] == Kind::Record as u8 {
         records <= number
     } else {
         levels - 1 <= number
@@ -100,7 +100,7 @@ fn slot(log: &[u8], records: usize, k: usize) -> usize
 {
     let at = ENTRY_SIZE * k;
     let number = diagrams::pair(log, at + 2);
-    if log[at + 1] == 0 {
+    if log[at + 1] == Kind::Record as u8 {
         number
     } else {
         records + number

@@ -45,7 +45,8 @@ fn first_same(table: &[u8], chains: &Chains, b: usize, i: RecordNumber) -> Walke
     let mut met = 0;
     let mut entry = chains.newest(b);
     while let Some(j) = entry {
-        if is_same(table, i, RecordNumber(j)) {
+        let same = is_same(table, i, RecordNumber(j));
+        if same {
             found = Some(j);
         }
         entry = chains.before(j);

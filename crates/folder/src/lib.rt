@@ -60,28 +60,15 @@ fn load_labels<R: rt::Files + Eprint>(
     files::load(rt, path, list, 0)
 }
 
-// Writes the text of the program at once.
-fn print<'a, R: Print + Eprint>(
-    rt: &R,
-    table: &mut [u8],
-    roots: &[u8],
-    order: &mut [u8],
-    target: &[u8],
-    plan: &[u8],
-    site: &'a [u8],
-    factory: &'a [u8],
-)
-    requires { Held table.old roots.now order.old }
-{
-    let mut text = [0u8; program::MOST_TEXT];
-    let n = program::text(table, roots, order, target, plan, site, factory, &mut text);
-    if let Err(error) = rt.write_all(&text[..n]) {
+// Writes the whole text at once.
+fn write<R: Print + Eprint>(rt: &R, text: &[u8]) {
+    if let Err(error) = rt.write_all(text) {
         let _ = eprintln!(rt; "standard output: {error}");
     }
 }
 
-// Prints with the labels of the site and of the factory.
-fn print_labelled<R: rt::Files + Print + Eprint>(
+// Prints the text of the program, with the labels of the site and of the factory.
+fn print<R: rt::Files + Print + Eprint>(
     rt: &R,
     table: &mut [u8],
     roots: &[u8],
@@ -95,8 +82,8 @@ fn print_labelled<R: rt::Files + Print + Eprint>(
     let s = load_labels(rt, "trip.lbs", &mut site)?;
     let mut factory = [0u8; LABEL_SIZE * MOST_LABELS + 1];
     let f = load_labels(rt, "trip.lbf", &mut factory)?;
-    print(
-        rt,
+    let mut text = [0u8; program::MOST_TEXT];
+    let n = program::text(
         table,
         roots,
         order,
@@ -104,7 +91,9 @@ fn print_labelled<R: rt::Files + Print + Eprint>(
         plan,
         &site[..s],
         &factory[..f],
+        &mut text,
     );
+    write(rt, &text[..n]);
     Ok(())
 }
 
@@ -117,7 +106,7 @@ fn load_and_print<R: rt::Files + Print + Eprint>(rt: &R) -> Result<(), Unreadabl
     let sizes = load_all(rt, &mut table, &mut roots, &mut order, &mut target)?;
     let mut plan = [0u8; 2];
     let p = load_plan(rt, &mut plan)?;
-    print_labelled(
+    print(
         rt,
         &mut table[..sizes.table],
         &roots[..sizes.roots],

@@ -6,22 +6,14 @@ use borrow.Author.Rules.{rules}
 use borrow.Author.Tests.{eq-eqb, ne_eqb}
 use lib.ListN.{length, get_or}
 use Rattle.lists.specs.Apart.{apart}
-use Rattle.checks.specs.Stages.{refusal, verdict_of}
+use Rattle.std.specs.Prelude.{Err}
+use Rattle.checks.specs.Stages.{Verdict, clear, refusal, verdict_of}
 use Rattle.checks.specs.declared.Refusal.{Refusal}
-use Rattle.checks.specs.declared.Verdict.{Verdict}
-use Rattle.checks.specs.declared.Verdict.TheVariants as verdict
+use Rattle.checks.specs.declared.Fault.TheVariants.{NoPlan}
 use Rattle.runs.specs.OneSwap.{plain_swap}
 use Rattle.undo.specs.Stores.{state}
-use Rattle.runs.specs.Run.{store_stages, run_of, RunOutcome}
-use Rattle.runs.specs.declared.RunAnswer.{RunAnswer}
-use Rattle.runs.specs.declared.RunAnswer.TheVariants.{Refused}
+use Rattle.runs.specs.Run.{RunAnswer, store_stages, run_of, RunOutcome}
 use Rattle.job.specs.Job.{largest_budget, empty_log, ran_of, unplanned, job_with, JobOutcome}
-
-pub answer_refuses : {v u : Verdict} {f : Refusal} → u ≡ v → u ≡ verdict.Refused f → Refused f ≡ unplanned v
-answer_refuses e h = ap unplanned (sym h ∙ e)
-
-pub answer_thirteen : {v u : Verdict} → u ≡ v → u ≡ verdict.Clear → Refused (refusal 13 0) ≡ unplanned v
-answer_thirteen e h = ap unplanned (sym h ∙ e)
 
 module _ (t r o g p : List ℕ) where
   module _ {log : List ℕ} (empty : log ≡ empty_log) where
@@ -37,8 +29,10 @@ module _ (t r o g p : List ℕ) where
         ∙ ap₂ (λ (m : ℕ) (l : List ℕ). ran_of (run_of plain_swap m (state t o l) r g largest_budget)) q empty
         ∙ rw (eq-eqb (length p) 1 e)
 
-pub ruleset running = (runs_unplanned, runs_planned, rules)
+    -- no plan is told, and the store is refused, or it is not
+    module _ {v : Verdict} (told : length p ≡ 1 → ⊥) (store : v ≡ verdict_of (store_stages plain_swap t r o g log)) where
+      pub store_refused : {w : Refusal} → v ≡ Err w → JobOutcome t r o g p (Err w) t o
+      store_refused h = runs_unplanned told (ap unplanned (sym h ∙ store))
 
-pub number_none : (p : List ℕ) → length p ≡ 0 → 0 ≡ get_or p 0 0
-number_none [] e = refl
-number_none (x ∷ p) e = apart (cc)
+      pub store_passed : v ≡ clear → JobOutcome t r o g p (Err (refusal NoPlan 0)) t o
+      store_passed h = runs_unplanned told (ap unplanned (sym h ∙ store))

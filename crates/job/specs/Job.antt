@@ -1,16 +1,13 @@
 -- The program's one run, as a function of the bytes of the store, its target and its plan.
 -- docs/RULES.md, 8.1.
-use Rattle.std.specs.Prelude.{ℕ, ◌*◌, cond, List, ◌≡◌, eqb, length, get_or, replicate}
-use Rattle.checks.specs.Stages.{refusal, verdict_of}
-use Rattle.checks.specs.declared.Verdict.{Verdict}
-use Rattle.checks.specs.declared.Verdict.TheVariants as verdict
+use Rattle.std.specs.Prelude.{ℕ, ◌*◌, cond, List, ◌≡◌, eqb, length, get_or, replicate, Ok, Err}
+use Rattle.checks.specs.Stages.{Verdict, refusal, verdict_of}
+use Rattle.checks.specs.declared.Fault.TheVariants.{NoPlan}
 use Rattle.runs.specs.OneSwap.{plain_swap}
 use Rattle.undo.specs.Stores.{state}
 use Rattle.undo.specs.Calls.{Ended}
 use Rattle.undo.specs.Log.{entry_size, most_log_records}
-use Rattle.runs.specs.Run.{store_stages, run_of}
-use Rattle.runs.specs.declared.RunAnswer.{RunAnswer}
-use Rattle.runs.specs.declared.RunAnswer.TheVariants.{Refused}
+use Rattle.runs.specs.Run.{RunAnswer, store_stages, run_of}
 
 -- the largest number of 32 bits
 abbrev pub largest_budget : ℕ
@@ -31,8 +28,8 @@ ran_of e = record { answer = e.answer; table = e.state.table; order = e.state.or
 
 -- no plan is told: refused by the first of checks 1 to 9 that fails, or else with 13 at place 0
 abbrev pub unplanned : Verdict → RunAnswer
-unplanned (verdict.Refused f) = Refused f
-unplanned verdict.Clear = Refused (refusal 13 0)
+unplanned (Err f) = Err f
+unplanned (Ok _) = Err (refusal NoPlan 0)
 
 -- One run with the largest budget, from the table, the roots and the order that the files hold, towards the target. The one byte of trip.pln is the
 -- plan's number; a file of any other length tells none.

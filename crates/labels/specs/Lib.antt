@@ -1,3 +1,4 @@
 pub mod Label
 pub mod Labelled
 pub mod Texts
+pub mod Lists

@@ -3,6 +3,7 @@
 
 ghost use Rattle.std.specs.Prelude.{◌≡◌};
 ghost use Rattle.labels.specs.Label.{bad_length, label_count, InLabels, names, first_for, first_text, label_of, LabelOutcome};
+ghost use Rattle.labels.specs.Lists.{texts};
 
 use diagrams::Variable;
 use parts::Part;
@@ -85,5 +86,22 @@ pub fn label<'a>(site: &'a [u8], factory: &'a [u8], variable: Variable) -> &'a [
         Place::Nowhere => parts::part_of(site, Part(0, 0)),
         Place::Site(part) => parts::part_of(site, part),
         Place::Factory(part) => parts::part_of(factory, part),
+    }
+}
+
+// The two lists.
+#[derive(Clone, Copy)]
+pub struct Lists<'a> {
+    pub site: &'a [u8],
+    pub factory: &'a [u8],
+}
+
+impl<'a> Lists<'a> {
+    // The text of the label, which is empty where there is none.
+    #[tactic(auto, unfolding(crate::specs::Label::text_of))]
+    pub fn text(&self, variable: Variable) -> &'a [u8]
+        ensures { result.now ≡ texts self.now variable.0 }
+    {
+        label(self.site, self.factory, variable)
     }
 }

@@ -1,117 +1,86 @@
-// The listing of a store: its order, its records with the labels of their variables, and its roots, put as text into a lent list of bytes. Each
-// function puts its part at a place of the list and hands back the place after it.
+// The listing of a store, put on a page: its order, its records with the labels of their variables, and its roots.
 #![tactic(auto)]
 
-ghost use Rattle.std.specs.Prelude.{◌<◌, length};
-ghost use Rattle.diagrams.specs.Layout.{InRoots};
-ghost use Rattle.labels.specs.Label.{text_of};
+ghost use Rattle.labels.specs.Lists.{texts};
 ghost use Rattle.texts.specs.Put.{Put, Space};
-ghost use Rattle.listing.specs.Text.{variable_text, variables_text, order_line, records_text, root_text, references_text, roots_line, listing};
+ghost use Rattle.listing.specs.Text.{variables_text, order_line, records_text, references_text, roots_line, listing};
 
-use diagrams::{RecordNumber, wide};
+use diagrams::RecordNumber;
+use labels::Lists;
 use record_lines::put_labelled;
-use texts::{put, put_numbered};
+use texts::Page;
 
 // ---- the order
 
-fn put_variable(out: &mut [u8], at: usize, order: &[u8], k: usize) -> usize
-    requires { (k < length order.now) × Space out.old at (variable_text order.now k) }
-    ensures { Put out.old at (variable_text order.now k) out.new result }
+#[tactic(auto, using(texts::specs::Put::turns), unfolding(crate::specs::Text::variable_text))]
+fn put_variables(page: &mut Page, order: &[u8])
+    requires { Space page.old (variables_text order.now) }
+    ensures { Put page.old (variables_text order.now) page.new }
 {
-    put_numbered(out, at, b" ", wide(order[k]))
-}
-
-fn put_variables(out: &mut [u8], at: usize, order: &[u8]) -> usize
-    requires { Space out.old at (variables_text order.now) }
-    ensures { Put out.old at (variables_text order.now) out.new result }
-{
-    let n = order.len();
-    let mut next = at;
-    let mut k = 0;
-    while k < n {
-        next = put_variable(out, next, order, k);
-        k += 1;
+    for variable in order {
+        page.put_numbered(b" ", usize::from(*variable));
     }
-    next
 }
 
-fn put_order(out: &mut [u8], at: usize, order: &[u8]) -> usize
-    requires { Space out.old at (order_line order.now) }
-    ensures { Put out.old at (order_line order.now) out.new result }
+#[tactic(auto, using(texts::specs::Put::putting), unfolding(crate::specs::Text::order_line))]
+fn put_order(page: &mut Page, order: &[u8])
+    requires { Space page.old (order_line order.now) }
+    ensures { Put page.old (order_line order.now) page.new }
 {
-    let after_word = put(out, at, b"order");
-    let after_variables = put_variables(out, after_word, order);
-    put(out, after_variables, b"\n")
+    page.put(b"order");
+    put_variables(page, order);
+    page.put(b"\n");
 }
 
 // ---- the records
 
-fn put_records<'a>(
-    out: &mut [u8],
-    at: usize,
-    table: &[u8],
-    site: &'a [u8],
-    factory: &'a [u8],
-) -> usize
-    requires { Space out.old at (records_text (text_of site.now factory.now) table.now) }
-    ensures { Put out.old at (records_text (text_of site.now factory.now) table.now) out.new result }
+#[tactic(auto, using(texts::specs::Put::turns))]
+fn put_records(page: &mut Page, table: &[u8], labels: &Lists)
+    requires { Space page.old (records_text (texts labels.now) table.now) }
+    ensures { Put page.old (records_text (texts labels.now) table.now) page.new }
 {
-    let n = diagrams::count_records(table);
-    let mut next = at;
-    let mut i = 0;
-    while i < n {
-        next = put_labelled(out, next, table, RecordNumber(i), site, factory);
-        i += 1;
+    for i in 0..diagrams::count_records(table) {
+        put_labelled(page, table, RecordNumber(i), labels);
     }
-    next
 }
 
 // ---- the roots
 
-fn put_root(out: &mut [u8], at: usize, roots: &[u8], k: usize) -> usize
-    requires { InRoots roots.now k × Space out.old at (root_text roots.now k) }
-    ensures { Put out.old at (root_text roots.now k) out.new result }
+#[tactic(auto, using(texts::specs::Put::turns), unfolding(crate::specs::Text::root_text))]
+fn put_references(page: &mut Page, roots: &[u8])
+    requires { Space page.old (references_text roots.now) }
+    ensures { Put page.old (references_text roots.now) page.new }
 {
-    put_numbered(out, at, b" ", diagrams::root(roots, k).0)
-}
-
-fn put_references(out: &mut [u8], at: usize, roots: &[u8]) -> usize
-    requires { Space out.old at (references_text roots.now) }
-    ensures { Put out.old at (references_text roots.now) out.new result }
-{
-    let n = diagrams::count_roots(roots);
-    let mut next = at;
-    let mut k = 0;
-    while k < n {
-        next = put_root(out, next, roots, k);
-        k += 1;
+    for k in 0..diagrams::count_roots(roots) {
+        page.put_numbered(b" ", diagrams::root(roots, k).0);
     }
-    next
 }
 
-fn put_roots(out: &mut [u8], at: usize, roots: &[u8]) -> usize
-    requires { Space out.old at (roots_line roots.now) }
-    ensures { Put out.old at (roots_line roots.now) out.new result }
+#[tactic(auto, using(texts::specs::Put::putting), unfolding(crate::specs::Text::roots_line))]
+fn put_roots(page: &mut Page, roots: &[u8])
+    requires { Space page.old (roots_line roots.now) }
+    ensures { Put page.old (roots_line roots.now) page.new }
 {
-    let after_word = put(out, at, b"roots");
-    let after_references = put_references(out, after_word, roots);
-    put(out, after_references, b"\n")
+    page.put(b"roots");
+    put_references(page, roots);
+    page.put(b"\n");
 }
 
-pub fn put_listing<'a>(
-    out: &mut [u8],
-    at: usize,
-    table: &[u8],
-    roots: &[u8],
-    order: &[u8],
-    site: &'a [u8],
-    factory: &'a [u8],
-) -> usize
-    requires { Space out.old at (listing (text_of site.now factory.now) table.now roots.now order.now) }
-    ensures { Put out.old at
-        (listing (text_of site.now factory.now) table.now roots.now order.now) out.new result }
+// ---- all of it
+
+#[derive(Clone, Copy)]
+pub struct Store<'a> {
+    pub table: &'a [u8],
+    pub roots: &'a [u8],
+    pub order: &'a [u8],
+}
+
+#[tactic(auto, using(texts::specs::Put::putting), unfolding(crate::specs::Text::listing))]
+pub fn put_listing(page: &mut Page, store: &Store, labels: &Lists)
+    requires { Space page.old (listing (texts labels.now) store.now.table.now store.now.roots.now store.now.order.now) }
+    ensures { Put page.old (listing (texts labels.now) store.now.table.now store.now.roots.now store.now.order.now) page.new }
 {
-    let after_order = put_order(out, at, order);
-    let after_records = put_records(out, after_order, table, site, factory);
-    put_roots(out, after_records, roots)
+    put_order(page, store.order);
+    put_records(page, store.table, labels);
+    put_roots(page, store.roots);
 }

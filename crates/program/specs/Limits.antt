@@ -1,6 +1,6 @@
 -- A file over its limit is refusal 1, and so is an odd number of root bytes. So the program need not read a file further than one byte past its
 -- limit. A label list over its limit is no refusal, but labels nothing, read as far as that or whole.
-use Rattle.std.specs.Prelude.{ℕ, ◌+◌, ◌*◌, ◌%◌, ◌≤◌, ◌<◌, Bool, ◌≡◌, eqb, length, get_or, take}
+use Rattle.std.specs.Prelude.{ℕ, ◌+◌, ◌*◌, ◌%◌, ◌≤◌, ◌<◌, Bool, ◌≡◌, eqb, length, get_or, take, Err}
 use Rattle.std.proofs.Math.Bool.{true, false, cond}
 use mathlib.Core.List.{List, [], ◌∷◌}
 use Rattle.std.proofs.Math.Logic.{⊎_elim}
@@ -13,7 +13,7 @@ use Rattle.diagrams.specs.Layout.{record_size, root_size, most_records, most_roo
 use Rattle.orders.specs.Permutation.{ceiling}
 use Rattle.check_sizes.specs.Sizes.{Sizes}
 use Rattle.checks.specs.Stages.{refusal, stage_at, verdict_of, place_refuses, row_refuses}
-use Rattle.checks.specs.declared.Verdict.TheVariants as verdict
+use Rattle.checks.specs.declared.Fault.TheVariants.{BadSizes, NoPlan}
 use Rattle.labels.specs.Label.{label_size, most_labels, text_of}
 use Rattle.labels.specs.Labelled.{RightLength, Unlabelled, site_wrong, factory_wrong}
 use Rattle.labels.proofs.Texts.{text_empty_if}
@@ -21,9 +21,8 @@ use Rattle.plans.specs.Numbered.{no_plan}
 use Rattle.runs.specs.OneSwap.{plain_swap}
 use Rattle.runs.specs.Run.{bad_run_sizes, store_stages, run_stages, run_call}
 use Rattle.runs.proofs.Theorems.{run_sizes}
-use Rattle.runs.specs.declared.RunAnswer.TheVariants.{Refused}
 use Rattle.texts.specs.Text.{bytes, places, decimal, numbered}
-use Rattle.program.specs.Text.{answer_text, answer_line, plan_text, store_text, printed}
+use Rattle.program.specs.Text.{refusal_text, answer_text, answer_line, plan_text, store_text, printed}
 use Rattle.undo.specs.Stores.{puts}
 use Rattle.job.specs.Job.{Ran, empty_log, job_with, job_of}
 use Rattle.program.specs.Program.{text_with, program_text}
@@ -44,18 +43,18 @@ module _ (t r o g : List ℕ) where
   sizes_wrong (target_long h) s = omega (arith, s.0.few_variables)
   sizes_wrong (roots_odd h) s = omega (arith, s.0.whole_roots)
 
-  first_fails : OverLimit t r o g → verdict_of (store_stages plain_swap t r o g empty_log) ≡ verdict.Refused (refusal 1 0)
+  first_fails : OverLimit t r o g → verdict_of (store_stages plain_swap t r o g empty_log) ≡ Err (refusal BadSizes 0)
   unfolding store_stages
   first_fails h =
       let e = ⊎_elim (λ e. e) (λ e. absurd (sizes_wrong h (run_sizes t r o g e))) (by (bad_run_sizes t r o g)) in
-      sym (place_refuses 1 0 (bad_run_sizes t r o g) true _ (sym e) refl)
+      sym (place_refuses BadSizes 0 (bad_run_sizes t r o g) _ {b = true} (sym e) refl refl)
 
   -- whatever else the files hold, trip.pln too
-  pub over_refused : (p : List ℕ) → OverLimit t r o g → job_of t r o g p ≡ record { answer = Refused (refusal 1 0); table = t; order = o }
+  pub over_refused : (p : List ℕ) → OverLimit t r o g → job_of t r o g p ≡ record { answer = Err (refusal BadSizes 0); table = t; order = o }
   unfolding job_with run_call run_stages puts
   over_refused p h =
-      let rest = stage_at 13 (get_or p 0 0) (no_plan (get_or p 0 0)) ∷ [] in
-      let whole = sym (row_refuses (store_stages plain_swap t r o g empty_log) rest (refusal 1 0) (sym (first_fails h)) refl) in
+      let rest = stage_at NoPlan (get_or p 0 0) (no_plan (get_or p 0 0)) ∷ [] in
+      let whole = sym (row_refuses (store_stages plain_swap t r o g empty_log) rest (refusal BadSizes 0) (sym (first_fails h)) refl) in
       rw (whole, first_fails h) (either (eqb (length p) 1))
     where
       either : {x : Ran} (b : Bool) → cond b x x ≡ x
@@ -63,7 +62,7 @@ module _ (t r o g : List ℕ) where
       either false = refl
 
   pub over_printed : (p s f : List ℕ) → OverLimit t r o g → program_text t r o g p s f ≡ bytes "refused 1 place 0\n"
-  unfolding first places decimal numbered answer_text answer_line plan_text store_text printed text_with
+  unfolding first places decimal numbered refusal_text answer_text answer_line plan_text store_text printed text_with
   over_printed p s f h = ap (λ (ran : Ran). printed (get_or p 0 0) ran.answer (text_of s f) ran.table r ran.order) (over_refused p h)
 
 -- ---- a file read up to one byte past its limit

@@ -1,10 +1,13 @@
 -- What is printed of a run: a line for its plan, one for its answer, and the listing of the store that it left; of a refused run the answer alone.
 -- docs/RULES.md, 8.2.
-use Rattle.std.specs.Prelude.{ℕ, Bool, true, false, cond, List, [], ◌++◌}
+use Rattle.std.specs.Prelude.{ℕ, Bool, true, false, cond, List, [], ◌++◌, Ok, Err}
 use Rattle.swap_ways.specs.declared.Lack.{Lack}
 use Rattle.swap_ways.specs.declared.Short.{Short}
-use Rattle.runs.specs.declared.RunAnswer.{RunAnswer}
-use Rattle.runs.specs.declared.RunAnswer.TheVariants.{Done, NoRoom, LogShort, Paused, Refused}
+use Rattle.checks.specs.Stages.{number}
+use Rattle.checks.specs.declared.Refusal.{Refusal}
+use Rattle.runs.specs.Run.{RunAnswer}
+use Rattle.runs.specs.declared.Slice.{Slice}
+use Rattle.runs.specs.declared.Slice.TheVariants.{Done, NoRoom, LogShort, Paused}
 use Rattle.texts.specs.Text.{bytes, numbered}
 use Rattle.listing.specs.Text.{listing}
 
@@ -19,12 +22,18 @@ lack_text lack = numbered (bytes " level ") lack.level ++ numbered (bytes " need
 unfoldable pub short_text : Short → List ℕ
 short_text short = numbered (bytes " level ") short.level ++ numbered (bytes " needed ") short.needed ++ numbered (bytes " held ") short.held
 
+unfoldable pub slice_text : Slice → List ℕ
+slice_text (Done swaps left) = swaps_text (bytes "done swaps ") swaps left
+slice_text (NoRoom swaps left lack) = swaps_text (bytes "no room swaps ") swaps left ++ lack_text lack
+slice_text (LogShort swaps left short) = swaps_text (bytes "log short swaps ") swaps left ++ short_text short
+slice_text (Paused swaps left) = swaps_text (bytes "paused swaps ") swaps left
+
+unfoldable pub refusal_text : Refusal → List ℕ
+refusal_text refusal = numbered (bytes "refused ") (number refusal.fault) ++ numbered (bytes " place ") refusal.place
+
 unfoldable pub answer_text : RunAnswer → List ℕ
-answer_text (Done swaps left) = swaps_text (bytes "done swaps ") swaps left
-answer_text (NoRoom swaps left lack) = swaps_text (bytes "no room swaps ") swaps left ++ lack_text lack
-answer_text (LogShort swaps left short) = swaps_text (bytes "log short swaps ") swaps left ++ short_text short
-answer_text (Paused swaps left) = swaps_text (bytes "paused swaps ") swaps left
-answer_text (Refused refusal) = numbered (bytes "refused ") refusal.number ++ numbered (bytes " place ") refusal.place
+answer_text (Ok slice) = slice_text slice
+answer_text (Err refusal) = refusal_text refusal
 
 unfoldable pub answer_line : RunAnswer → List ℕ
 answer_line a = answer_text a ++ bytes "\n"
@@ -32,11 +41,8 @@ answer_line a = answer_text a ++ bytes "\n"
 -- ---- the whole text
 
 abbrev pub is_refused : RunAnswer → Bool
-is_refused (Done swaps left) = false
-is_refused (NoRoom swaps left lack) = false
-is_refused (LogShort swaps left short) = false
-is_refused (Paused swaps left) = false
-is_refused (Refused refusal) = true
+is_refused (Ok slice) = false
+is_refused (Err refusal) = true
 
 unfoldable pub plan_line : ℕ → List ℕ
 plan_line plan = numbered (bytes "plan ") plan ++ bytes "\n"

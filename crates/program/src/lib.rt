@@ -1,21 +1,23 @@
 // What the program prints: from the bytes of its seven files to the text, in one function. The other functions put their part of the text
-// into a lent list of bytes and hand back the place after it.
+// on a page.
 #![tactic(auto)]
 
 ghost use Rattle.std.specs.Prelude.{◌≡◌, ◌≤◌, length};
-ghost use Rattle.labels.specs.Label.{text_of};
-ghost use Rattle.texts.specs.Put.{Put, Space, Printed};
-ghost use Rattle.program.specs.Text.{swaps_text, lack_text, short_text, answer_text, answer_line, is_refused, plan_line, plan_text, store_text, printed};
+ghost use Rattle.labels.specs.Lists.{texts};
+ghost use Rattle.texts.specs.Put.{Put, Space};
+ghost use Rattle.program.specs.Text.{swaps_text, lack_text, short_text, slice_text, refusal_text, answer_text, answer_line};
+ghost use Rattle.program.specs.Text.{plan_line, plan_text, store_text, printed};
 ghost use Rattle.program.specs.Program.{Prints, most_text, Held};
-ghost use Rattle.runs.specs.declared.RunAnswer.TheVariants.{NoRoom, LogShort, Refused};
+ghost use Rattle.runs.specs.declared.Slice.TheVariants.{NoRoom, LogShort};
 
 use checks::Refusal;
 use diagrams::{MOST_RECORDS, MOST_ROOTS};
-use labels::TEXT_SIZE;
+use labels::{Lists, TEXT_SIZE};
+use listing::Store;
 use orders::Order;
-use runs::RunAnswer;
+use runs::Slice;
 use swap_ways::{Lack, Short};
-use texts::{put, put_numbered};
+use texts::Page;
 
 // The most bytes that are printed of a full store, with one variable more than an order may have: 21 a record and a whole text with the end of its
 // line, 6 a root, 4 a variable, and 188 for the first two lines and the words.
@@ -26,165 +28,148 @@ pub const MOST_TEXT: usize = (21 + (TEXT_SIZE + 1)) * MOST_RECORDS
 
 // ---- the line of the answer
 
-fn put_swaps(out: &mut [u8], at: usize, word: &[u8], swaps: usize, left: usize) -> usize
-    requires { Space out.old at (swaps_text word.now swaps left) }
-    ensures { Put out.old at (swaps_text word.now swaps left) out.new result }
+#[tactic(auto, using(texts::specs::Put::putting), unfolding(crate::specs::Text::swaps_text))]
+fn put_swaps(page: &mut Page, word: &[u8], swaps: usize, left: usize)
+    requires { Space page.old (swaps_text word.now swaps left) }
+    ensures { Put page.old (swaps_text word.now swaps left) page.new }
 {
-    let after_swaps = put_numbered(out, at, word, swaps);
-    put_numbered(out, after_swaps, b" left ", left)
+    page.put_numbered(word, swaps);
+    page.put_numbered(b" left ", left);
 }
 
 // Why the next swap doesn't fit.
-fn put_lack(out: &mut [u8], at: usize, lack: Lack) -> usize
-    requires { Space out.old at (lack_text lack) }
-    ensures { Put out.old at (lack_text lack) out.new result }
+#[tactic(auto, using(texts::specs::Put::putting), unfolding(crate::specs::Text::lack_text))]
+fn put_lack(page: &mut Page, lack: Lack)
+    requires { Space page.old (lack_text lack) }
+    ensures { Put page.old (lack_text lack) page.new }
 {
-    let after_level = put_numbered(out, at, b" level ", lack.level);
-    let after_needed = put_numbered(out, after_level, b" needed ", lack.needed);
-    put_numbered(out, after_needed, b" free ", lack.free)
+    page.put_numbered(b" level ", lack.level);
+    page.put_numbered(b" needed ", lack.needed);
+    page.put_numbered(b" free ", lack.free);
 }
 
-fn put_no_room(out: &mut [u8], at: usize, swaps: usize, left: usize, lack: Lack) -> usize
-    requires { Space out.old at (answer_text (NoRoom swaps left lack)) }
-    ensures { Put out.old at (answer_text (NoRoom swaps left lack)) out.new result }
+#[tactic(auto, using(texts::specs::Put::putting), unfolding(crate::specs::Text::slice_text))]
+fn put_no_room(page: &mut Page, swaps: usize, left: usize, lack: Lack)
+    requires { Space page.old (slice_text (NoRoom swaps left lack)) }
+    ensures { Put page.old (slice_text (NoRoom swaps left lack)) page.new }
 {
-    let after_swaps = put_swaps(out, at, b"no room swaps ", swaps, left);
-    put_lack(out, after_swaps, lack)
+    put_swaps(page, b"no room swaps ", swaps, left);
+    put_lack(page, lack);
 }
 
 // Why the log doesn't hold its entries.
-fn put_short(out: &mut [u8], at: usize, short: Short) -> usize
-    requires { Space out.old at (short_text short) }
-    ensures { Put out.old at (short_text short) out.new result }
+#[tactic(auto, using(texts::specs::Put::putting), unfolding(crate::specs::Text::short_text))]
+fn put_short(page: &mut Page, short: Short)
+    requires { Space page.old (short_text short) }
+    ensures { Put page.old (short_text short) page.new }
 {
-    let after_level = put_numbered(out, at, b" level ", short.level);
-    let after_needed = put_numbered(out, after_level, b" needed ", short.needed);
-    put_numbered(out, after_needed, b" held ", short.held)
+    page.put_numbered(b" level ", short.level);
+    page.put_numbered(b" needed ", short.needed);
+    page.put_numbered(b" held ", short.held);
 }
 
-fn put_log_short(out: &mut [u8], at: usize, swaps: usize, left: usize, short: Short) -> usize
-    requires { Space out.old at (answer_text (LogShort swaps left short)) }
-    ensures { Put out.old at (answer_text (LogShort swaps left short)) out.new result }
+#[tactic(auto, using(texts::specs::Put::putting), unfolding(crate::specs::Text::slice_text))]
+fn put_log_short(page: &mut Page, swaps: usize, left: usize, short: Short)
+    requires { Space page.old (slice_text (LogShort swaps left short)) }
+    ensures { Put page.old (slice_text (LogShort swaps left short)) page.new }
 {
-    let after_swaps = put_swaps(out, at, b"log short swaps ", swaps, left);
-    put_short(out, after_swaps, short)
+    put_swaps(page, b"log short swaps ", swaps, left);
+    put_short(page, short);
 }
 
-fn put_refusal(out: &mut [u8], at: usize, refusal: Refusal) -> usize
-    requires { Space out.old at (answer_text (Refused refusal)) }
-    ensures { Put out.old at (answer_text (Refused refusal)) out.new result }
+#[tactic(auto, using(crate::proofs::Laws::slicing), unfolding(crate::specs::Text::slice_text))]
+fn put_slice(page: &mut Page, slice: Slice)
+    requires { Space page.old (slice_text slice) }
+    ensures { Put page.old (slice_text slice) page.new }
 {
-    let after_number = put_numbered(out, at, b"refused ", refusal.number as usize);
-    put_numbered(out, after_number, b" place ", refusal.place)
-}
-
-fn put_answer(out: &mut [u8], at: usize, answer: RunAnswer) -> usize
-    requires { Space out.old at (answer_text answer) }
-    ensures { Put out.old at (answer_text answer) out.new result }
-{
-    match answer {
-        RunAnswer::Done { swaps, left } => put_swaps(out, at, b"done swaps ", swaps, left),
-        RunAnswer::NoRoom { swaps, left, lack } => put_no_room(out, at, swaps, left, lack),
-        RunAnswer::LogShort { swaps, left, short } => put_log_short(out, at, swaps, left, short),
-        RunAnswer::Paused { swaps, left } => put_swaps(out, at, b"paused swaps ", swaps, left),
-        RunAnswer::Refused(refusal) => put_refusal(out, at, refusal),
+    match slice {
+        Slice::Done { swaps, left } => put_swaps(page, b"done swaps ", swaps, left),
+        Slice::NoRoom { swaps, left, lack } => put_no_room(page, swaps, left, lack),
+        Slice::LogShort { swaps, left, short } => put_log_short(page, swaps, left, short),
+        Slice::Paused { swaps, left } => put_swaps(page, b"paused swaps ", swaps, left),
     }
 }
 
-fn put_answer_line(out: &mut [u8], at: usize, answer: RunAnswer) -> usize
-    requires { Space out.old at (answer_line answer) }
-    ensures { Put out.old at (answer_line answer) out.new result }
+#[tactic(auto, using(texts::specs::Put::putting), unfolding(crate::specs::Text::refusal_text))]
+fn put_refusal(page: &mut Page, refusal: Refusal)
+    requires { Space page.old (refusal_text refusal) }
+    ensures { Put page.old (refusal_text refusal) page.new }
 {
-    let after_answer = put_answer(out, at, answer);
-    put(out, after_answer, b"\n")
+    page.put_numbered(b"refused ", usize::from(u8::from(refusal.fault)));
+    page.put_numbered(b" place ", refusal.place);
 }
 
-fn is_refused(answer: RunAnswer) -> bool
-    ensures { result ≡ is_refused answer }
+#[tactic(auto, using(crate::proofs::Laws::answering), unfolding(crate::specs::Text::answer_text))]
+fn put_answer(page: &mut Page, answer: Result<Slice, Refusal>)
+    requires { Space page.old (answer_text answer) }
+    ensures { Put page.old (answer_text answer) page.new }
 {
     match answer {
-        RunAnswer::Done { .. } => false,
-        RunAnswer::NoRoom { .. } => false,
-        RunAnswer::LogShort { .. } => false,
-        RunAnswer::Paused { .. } => false,
-        RunAnswer::Refused(_) => true,
+        Ok(slice) => put_slice(page, slice),
+        Err(refusal) => put_refusal(page, refusal),
     }
+}
+
+#[tactic(auto, using(texts::specs::Put::putting), unfolding(crate::specs::Text::answer_line))]
+fn put_answer_line(page: &mut Page, answer: Result<Slice, Refusal>)
+    requires { Space page.old (answer_line answer) }
+    ensures { Put page.old (answer_line answer) page.new }
+{
+    put_answer(page, answer);
+    page.put(b"\n");
 }
 
 // ---- the whole text
 
-fn put_plan_line(out: &mut [u8], plan: usize) -> usize
-    requires { Space out.old 0 (plan_line plan) }
-    ensures { Put out.old 0 (plan_line plan) out.new result }
+#[tactic(auto, using(texts::specs::Put::putting), unfolding(crate::specs::Text::plan_line))]
+fn put_plan_line(page: &mut Page, plan: usize)
+    requires { Space page.old (plan_line plan) }
+    ensures { Put page.old (plan_line plan) page.new }
 {
-    let after_plan = put_numbered(out, 0, b"plan ", plan);
-    put(out, after_plan, b"\n")
+    page.put_numbered(b"plan ", plan);
+    page.put(b"\n");
 }
 
 // The plan's line, unless the run was refused.
-fn put_plan(out: &mut [u8], answer: RunAnswer, plan: usize) -> usize
-    requires { Space out.old 0 (plan_text answer plan) }
-    ensures { Put out.old 0 (plan_text answer plan) out.new result }
+#[tactic(auto, using(crate::proofs::Laws::planning))]
+fn put_plan(page: &mut Page, answer: Result<Slice, Refusal>, plan: usize)
+    requires { Space page.old (plan_text answer plan) }
+    ensures { Put page.old (plan_text answer plan) page.new }
 {
-    if is_refused(answer) {
-        return 0;
+    if answer.is_ok() {
+        put_plan_line(page, plan);
     }
-    put_plan_line(out, plan)
 }
 
 // The listing, unless the run was refused.
-fn put_store<'a>(
-    out: &mut [u8],
-    at: usize,
-    answer: RunAnswer,
-    table: &[u8],
-    roots: &[u8],
-    order: &[u8],
-    site: &'a [u8],
-    factory: &'a [u8],
-) -> usize
-    requires { Space out.old at (store_text answer (text_of site.now factory.now) table.now roots.now order.now) }
-    ensures { Put out.old at
-        (store_text answer (text_of site.now factory.now) table.now roots.now order.now)
-        out.new result }
+#[tactic(auto, using(crate::proofs::Laws::storing))]
+fn put_store(page: &mut Page, answer: Result<Slice, Refusal>, store: &Store, labels: &Lists)
+    requires { Space page.old (store_text answer (texts labels.now) store.now.table.now store.now.roots.now store.now.order.now) }
+    ensures { Put page.old
+        (store_text answer (texts labels.now) store.now.table.now store.now.roots.now store.now.order.now)
+        page.new }
 {
-    if is_refused(answer) {
-        return at;
+    if answer.is_err() {
+        return;
     }
-    listing::put_listing(out, at, table, roots, order, site, factory)
+    listing::put_listing(page, store, labels);
 }
 
-fn print<'a>(
-    out: &mut [u8],
-    plan: usize,
-    answer: RunAnswer,
-    table: &[u8],
-    roots: &[u8],
-    order: &[u8],
-    site: &'a [u8],
-    factory: &'a [u8],
-) -> usize
-    requires { Space out.old 0 (printed plan answer (text_of site.now factory.now) table.now roots.now order.now) }
-    ensures { Printed
-        (printed plan answer (text_of site.now factory.now) table.now roots.now order.now)
-        out.old out.new result }
+#[tactic(auto, using(texts::specs::Put::putting), unfolding(crate::specs::Text::printed))]
+fn put_run(page: &mut Page, plan: usize, answer: Result<Slice, Refusal>, store: &Store, labels: &Lists)
+    requires { Space page.old (printed plan answer (texts labels.now) store.now.table.now store.now.roots.now store.now.order.now) }
+    ensures { Put page.old
+        (printed plan answer (texts labels.now) store.now.table.now store.now.roots.now store.now.order.now)
+        page.new }
 {
-    let after_plan = put_plan(out, answer, plan);
-    let after_answer = put_answer_line(out, after_plan, answer);
-    put_store(
-        out,
-        after_answer,
-        answer,
-        table,
-        roots,
-        order,
-        site,
-        factory,
-    )
+    put_plan(page, answer, plan);
+    put_answer_line(page, answer);
+    put_store(page, answer, store, labels);
 }
 
 // All that the program prints for the bytes of its files, from the first byte of `out` on; how many bytes that is. Brings the table and
 // the order as far towards the target as they go.
+#[tactic(auto, using(crate::proofs::Laws::printing))]
 pub fn text<'a>(
     table: &mut [u8],
     roots: &[u8],
@@ -200,14 +185,13 @@ pub fn text<'a>(
         site.now factory.now out.old out.new result }
 {
     let answer = job::run(table, roots, order, target, plan);
-    print(
-        out,
-        job::number_in(plan),
-        answer,
+    let store = Store {
         table,
         roots,
         order,
-        site,
-        factory,
-    )
+    };
+    let labels = Lists { site, factory };
+    let mut page = Page::new(out);
+    put_run(&mut page, job::number_in(plan), answer, &store, &labels);
+    page.len()
 }

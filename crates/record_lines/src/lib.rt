@@ -1,97 +1,80 @@
-// The lines of a record: what it holds, and after a used one the label of its variable, put as text into a lent list of bytes. Each function puts its
-// part at a place of the list and hands back the place after it.
+// The lines of a record, put on a page: what it holds, and after a used one the label of its variable.
 #![tactic(auto)]
 
 ghost use Rattle.diagrams.specs.Layout.{InTable};
-ghost use Rattle.labels.specs.Label.{text_of};
+ghost use Rattle.diagrams.specs.Store.{meant};
+ghost use Rattle.labels.specs.Lists.{texts};
 ghost use Rattle.texts.specs.Put.{Put, Space};
-ghost use Rattle.record_lines.specs.Text.{fields_text, content_text, record_line, label_line, label_text, record_text};
+ghost use Rattle.record_lines.specs.Text.{content_text, record_line, label_line, label_text, record_text};
 
-use diagrams::{RecordNumber, Reference, Variable};
-use texts::{put, put_before_zero, put_decimal, put_numbered};
+use diagrams::{Record, RecordNumber};
+use labels::Lists;
+use texts::Page;
 
 // ---- the record
 
-fn put_fields(
-    out: &mut [u8],
-    at: usize,
-    variable: Variable,
-    low: Reference,
-    high: Reference,
-) -> usize
-    requires { Space out.old at (fields_text variable.0 low.0 high.0) }
-    ensures { Put out.old at (fields_text variable.0 low.0 high.0) out.new result }
+// What it holds, or that it is free.
+#[tactic(auto, using(texts::specs::Put::putting), unfolding(crate::specs::Text::content_text))]
+fn put_content(page: &mut Page, content: Record)
+    requires { Space page.old (content_text (meant content)) }
+    ensures { Put page.old (content_text (meant content)) page.new }
 {
-    let after_variable = put_numbered(out, at, b" ", variable.0);
-    let after_low = put_numbered(out, after_variable, b" ", low.0);
-    put_numbered(out, after_low, b" ", high.0)
-}
-
-// What a record holds, or that it is free.
-fn put_content(out: &mut [u8], at: usize, table: &[u8], i: RecordNumber) -> usize
-    requires { InTable table.now i.0 × Space out.old at (content_text table.now i.0) }
-    ensures { Put out.old at (content_text table.now i.0) out.new result }
-{
-    if i.is_free(table) {
-        return put(out, at, b" free");
+    match content {
+        Record::Free => page.put(b" free"),
+        Record::Used {
+            variable,
+            low,
+            high,
+        } => {
+            page.put_numbered(b" ", variable.0);
+            page.put_numbered(b" ", low.0);
+            page.put_numbered(b" ", high.0);
+        }
     }
-    put_fields(out, at, i.variable(table), i.low(table), i.high(table))
 }
 
-fn put_record(out: &mut [u8], at: usize, table: &[u8], i: RecordNumber) -> usize
-    requires { InTable table.now i.0 × Space out.old at (record_line table.now i.0) }
-    ensures { Put out.old at (record_line table.now i.0) out.new result }
+#[tactic(auto, using(texts::specs::Put::putting), unfolding(crate::specs::Text::record_line))]
+fn put_record(page: &mut Page, i: RecordNumber, content: Record)
+    requires { Space page.old (record_line i.0 (meant content)) }
+    ensures { Put page.old (record_line i.0 (meant content)) page.new }
 {
-    let after_number = put_decimal(out, at, i.0);
-    let after_content = put_content(out, after_number, table, i);
-    put(out, after_content, b"\n")
+    page.put_decimal(i.0);
+    put_content(page, content);
+    page.put(b"\n");
 }
 
-// ---- the label of its variable, from the lists of the site and of the factory
+// ---- the label of its variable
 
-fn put_label_line(out: &mut [u8], at: usize, text: &[u8]) -> usize
-    requires { Space out.old at (label_line text.now) }
-    ensures { Put out.old at (label_line text.now) out.new result }
+#[tactic(auto, using(texts::specs::Put::putting), unfolding(crate::specs::Text::label_line))]
+fn put_label_line(page: &mut Page, text: &[u8])
+    requires { Space page.old (label_line text.now) }
+    ensures { Put page.old (label_line text.now) page.new }
 {
-    let after_text = put_before_zero(out, at, text);
-    put(out, after_text, b"\n")
+    page.put_before_zero(text);
+    page.put(b"\n");
 }
 
 // After a used record, the line of its variable's label, where it has one.
-fn put_label<'a>(
-    out: &mut [u8],
-    at: usize,
-    table: &[u8],
-    i: RecordNumber,
-    site: &'a [u8],
-    factory: &'a [u8],
-) -> usize
-    requires { InTable table.now i.0 × Space out.old at (label_text (text_of site.now factory.now) table.now i.0) }
-    ensures { Put out.old at (label_text (text_of site.now factory.now) table.now i.0) out.new result }
+#[tactic(auto, using(crate::proofs::Laws::labelling))]
+fn put_label(page: &mut Page, content: Record, labels: &Lists)
+    requires { Space page.old (label_text (texts labels.now) (meant content)) }
+    ensures { Put page.old (label_text (texts labels.now) (meant content)) page.new }
 {
-    let free = i.is_free(table);
-    if free {
-        return at;
+    if let Record::Used { variable, .. } = content {
+        let text = labels.text(variable);
+        if !text.is_empty() {
+            put_label_line(page, text);
+        }
     }
-    let text = labels::label(site, factory, i.variable(table));
-    if text.len() == 0 {
-        return at;
-    }
-    put_label_line(out, at, text)
 }
 
 // The line of a record, and that of its label.
-pub fn put_labelled<'a>(
-    out: &mut [u8],
-    at: usize,
-    table: &[u8],
-    i: RecordNumber,
-    site: &'a [u8],
-    factory: &'a [u8],
-) -> usize
-    requires { InTable table.now i.0 × Space out.old at (record_text (text_of site.now factory.now) table.now i.0) }
-    ensures { Put out.old at (record_text (text_of site.now factory.now) table.now i.0) out.new result }
+#[tactic(auto, using(texts::specs::Put::putting), unfolding(crate::specs::Text::record_text))]
+pub fn put_labelled(page: &mut Page, table: &[u8], i: RecordNumber, labels: &Lists)
+    requires { InTable table.now i.0 × Space page.old (record_text (texts labels.now) table.now i.0) }
+    ensures { Put page.old (record_text (texts labels.now) table.now i.0) page.new }
 {
-    let after_record = put_record(out, at, table, i);
-    put_label(out, after_record, table, i, site, factory)
+    let content = Record::of(table, i);
+    put_record(page, i, content);
+    put_label(page, content, labels);
 }

@@ -1,5 +1,5 @@
 -- Laws of what specs/Again.antt defines.
-use Rattle.std.specs.Prelude.{ℕ, ◌≤◌, ◌<◌, ◌/◌, ◌≡◌, length}
+use Rattle.std.specs.Prelude.{ℕ, ◌≤◌, ◌<◌, ◌/◌, ◌≡◌, length, Ok}
 use Rattle.std.proofs.Math.Bool.{false}
 use mathlib.Core.List.{List, [], ◌∷◌, ◌++◌}
 use Rattle.std.proofs.Math.Path.{refl, ap, sym}
@@ -7,8 +7,8 @@ use Rattle.std.proofs.Common.{ap₂, ◌∙◌, subst}
 use Rattle.diagrams.specs.Layout.{record_size, records}
 use Rattle.orders.specs.Exchange.{exchange}
 use Rattle.check_sizes.specs.Sizes.{bad_sizes}
-use Rattle.checks.specs.Stages.{verdict_of, place_passes}
-use Rattle.checks.specs.declared.Verdict.TheVariants as verdict
+use Rattle.checks.specs.Stages.{clear, verdict_of, place_passes}
+use Rattle.checks.specs.declared.Fault.TheVariants.{BadSizes}
 use Rattle.undo.specs.Stores.{in_table, in_order, in_log, State, puts}
 use Rattle.undo.specs.Calls.{Call, cut}
 use Rattle.undo.specs.Log.{counted, swap_stores, swap_cut, recovery_stores, recovery_cut, recovered}
@@ -16,9 +16,7 @@ use Rattle.undo.specs.Survives.{Ready, Quiet, recoveries}
 use Rattle.undo.proofs.Survives.{recoveries_quiet, quiet_whole, before_the_swap, after_the_swap}
 use Rattle.check_log.specs.BadLog.{bad_log_size, log_stages}
 use Rattle.check_log.specs.Accepted.{same_size, cut_long, recoveries_long, never_refused, quiet_accepted}
-use Rattle.recovery.specs.Recover.{recover_stages, recover_judged, recover_call, recover_of}
-use Rattle.recovery.specs.declared.RecoverAnswer.{RecoverAnswer}
-use Rattle.recovery.specs.declared.RecoverAnswer.TheVariants.{PutBack}
+use Rattle.recovery.specs.Recover.{RecoverAnswer, recover_stages, recover_judged, recover_call, recover_of}
 use Rattle.recovery.specs.Again.{Accepting, recovers}
 
 one_more : (fs : List ℕ) (f : ℕ) (a : State) → recoveries (fs ++ (f ∷ [])) a ≡ recovery_cut f (recoveries fs a)
@@ -28,7 +26,7 @@ one_more (g ∷ fs) f a = one_more fs f (recovery_cut g a)
 
 module _ (a : State) (accepts : Accepting a) where
   call_is : (fs : List ℕ)
-      → recover_call (recoveries fs a) ≡ record { answer = PutBack (counted (recoveries fs a).log); stores = recovery_stores (recoveries fs a).log }
+      → recover_call (recoveries fs a) ≡ record { answer = Ok (counted (recoveries fs a).log); stores = recovery_stores (recoveries fs a).log }
   unfolding recover_call
   call_is fs = ap (recover_judged (recoveries fs a)) (accepts fs)
 
@@ -46,9 +44,9 @@ module _ (a : State) (accepts : Accepting a) where
   recovers_is fs = go_on fs []
 
   -- the whole one after them
-  pub recover_answers : (fs : List ℕ) → (recover_of (recovers fs a)).answer ≡ PutBack (counted (recovers fs a).log)
+  pub recover_answers : (fs : List ℕ) → (recover_of (recovers fs a)).answer ≡ Ok (counted (recovers fs a).log)
   recover_answers fs =
-      subst (λ (b : State). (recover_of b).answer ≡ PutBack (counted b.log)) (sym (recovers_is fs)) (ap (λ (c : Call RecoverAnswer). c.answer) (call_is fs))
+      subst (λ (b : State). (recover_of b).answer ≡ Ok (counted b.log)) (sym (recovers_is fs)) (ap (λ (c : Call RecoverAnswer). c.answer) (call_is fs))
 
   pub recover_restores : (fs : List ℕ) → (recover_of (recovers fs a)).state ≡ recovered (recoveries fs a)
   recover_restores fs =
@@ -62,12 +60,12 @@ same_sizes t o u p e h = rw (e, h)
 
 module _ (s : State) (sizes : bad_sizes s.table [] s.order ≡ false) where
   passes : (b : State) → length b.table ≡ length s.table → length b.order ≡ length s.order
-      → verdict_of (log_stages b.log (records s.table) (length s.order)) ≡ verdict.Clear
-      → verdict_of (recover_stages b.table b.order b.log) ≡ verdict.Clear
+      → verdict_of (log_stages b.log (records s.table) (length s.order)) ≡ clear
+      → verdict_of (recover_stages b.table b.order b.log) ≡ clear
   unfolding recover_stages
   passes b t o e =
-      sym (place_passes 1 0 (bad_sizes b.table [] b.order) false verdict.Clear _
-      (sym (same_sizes b.table b.order s.table s.order t o ∙ sizes)) refl
+      sym (place_passes BadSizes 0 (bad_sizes b.table [] b.order) _
+      (sym (same_sizes b.table b.order s.table s.order t o ∙ sizes)) refl refl
       (sym (ap₂ (λ (m n : ℕ). verdict_of (log_stages b.log (m / record_size) n)) t o ∙ e)))
 
   -- buffers whose log is empty

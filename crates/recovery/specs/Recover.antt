@@ -1,26 +1,28 @@
 -- Recover, over the bytes: it puts back what a sealed log holds and clears the seal, or refuses with 1 or 14. A cut may have left the other buffers
 -- half written, so they get no further checks.
 -- docs/RULES.md, 3 and 7.
-use Rattle.std.specs.Prelude.{ℕ, List, [], ◌∷◌, ◌≡◌, length}
+use Rattle.std.specs.Prelude.{ℕ, List, [], ◌∷◌, ◌≡◌, length, Result, Ok, Err}
 use Rattle.diagrams.specs.Layout.{records}
 use Rattle.check_sizes.specs.Sizes.{bad_sizes}
-use Rattle.checks.specs.Stages.{Stage, stage_at, verdict_of}
-use Rattle.checks.specs.declared.Verdict.{Verdict}
-use Rattle.checks.specs.declared.Verdict.TheVariants as verdict
+use Rattle.checks.specs.Stages.{number, Verdict, Stage, stage_at, verdict_of}
+use Rattle.checks.specs.declared.Refusal.{Refusal}
+use Rattle.checks.specs.declared.Fault.TheVariants.{BadSizes}
 use Rattle.undo.specs.Stores.{State}
 use Rattle.undo.specs.Calls.{Call, Ended, whole, cut, only}
 use Rattle.undo.specs.Log.{counted, recovery_stores}
 use Rattle.check_log.specs.BadLog.{log_stages}
-use Rattle.recovery.specs.declared.RecoverAnswer.{RecoverAnswer}
-use Rattle.recovery.specs.declared.RecoverAnswer.TheVariants.{PutBack, Refused}
 
 -- 1, without roots, and 14
 unfoldable pub recover_stages : List ℕ → List ℕ → List ℕ → List Stage
-recover_stages t o log = stage_at 1 0 (bad_sizes t [] o) ∷ log_stages log (records t) (length o)
+recover_stages t o log = stage_at BadSizes 0 (bad_sizes t [] o) ∷ log_stages log (records t) (length o)
+
+-- what Recover answers: how many entries it put back, or a refusal
+abbrev pub RecoverAnswer : Type 0
+RecoverAnswer = Result ℕ Refusal
 
 abbrev pub recover_judged : State → Verdict → Call RecoverAnswer
-recover_judged s verdict.Clear = record { answer = PutBack (counted s.log); stores = recovery_stores s.log }
-recover_judged s (verdict.Refused w) = only (Refused w)
+recover_judged s (Ok _) = record { answer = Ok (counted s.log); stores = recovery_stores s.log }
+recover_judged s (Err w) = only (Err w)
 
 unfoldable pub recover_call : State → Call RecoverAnswer
 recover_call s = recover_judged s (verdict_of (recover_stages s.table s.order s.log))
@@ -43,5 +45,5 @@ pub record RecoverStopped (f : ℕ) (s : State) (a : RecoverAnswer) (s' : State)
 
 -- the numbers of each answer: 0 stands for put back
 abbrev pub numbers : RecoverAnswer → List ℕ
-numbers (PutBack n) = 0 ∷ n ∷ []
-numbers (Refused w) = w.number ∷ w.place ∷ []
+numbers (Ok n) = 0 ∷ n ∷ []
+numbers (Err w) = number w.fault ∷ w.place ∷ []

@@ -2,11 +2,12 @@
 ghost use Rattle.std.specs.Prelude.{◌≡◌, ◌+◌, ◌<◌};
 ghost use Rattle.diagrams.specs.Layout.{records, InTable};
 ghost use Rattle.check_sizes.specs.Sizes.{TableSizes};
-ghost use Rattle.swap_records.specs.Listed.{RoomFor, FreeListed};
-ghost use Rattle.swap_names.specs.Slots.{dying_by, NamesFor, Adding, Added, SlotsListed};
+ghost use Rattle.swap_records.specs.Listed.{FreeListed};
+ghost use Rattle.swap_names.specs.Slots.{dying_by, NamesFor, Adding, SlotsListed};
 
 use diagrams::{RecordNumber, Variable};
-use swap_records::{Pair, collect};
+use swap_records::Pair;
+use swap_records::collect::Numbers;
 
 // Does record i die: is it a y record without a name?
 fn is_dying(table: &[u8], y: Variable, names: &[u16], i: RecordNumber) -> bool
@@ -16,42 +17,31 @@ fn is_dying(table: &[u8], y: Variable, names: &[u16], i: RecordNumber) -> bool
     swap_records::is_record_of(table, y, i) & super::is_unnamed(names, i)
 }
 
-// Record i is put after the k slots so far, if it dies. It is asked first: where nothing more dies, the list may be full.
-fn add_if_dying(
-    table: &[u8],
-    y: Variable,
-    names: &[u16],
-    slots: &mut [u16],
-    k: usize,
-    i: RecordNumber,
-) -> usize
-    requires { Adding table.now y.0 names.now i.0 slots.old k × (i.0 < records table.now) }
-    ensures { Adding table.now y.0 names.now (i.0 + 1) slots.new result }
+// Record i is put after the slots so far, if it dies. It is asked first: where nothing more dies, the list may be full.
+fn add_if_dying(table: &[u8], y: Variable, names: &[u16], slots: &mut Numbers, i: RecordNumber)
+    requires { Adding table.now y.0 names.now i.0 slots.old × (i.0 < records table.now) }
+    ensures { Adding table.now y.0 names.now (i.0 + 1) slots.new }
 {
     if is_dying(table, y, names, i) {
-        return collect::push_if(slots, k, true, i);
+        slots.push(i.0 as u16);
     }
-    k
 }
 
-fn add_all(table: &[u8], y: Variable, names: &[u16], slots: &mut [u16], free: usize) -> usize
-    requires { (NamesFor table.now names.now × RoomFor table.now slots.old) × FreeListed table.now slots.old free }
-    ensures { Added table.now y.0 names.now slots.new result }
+fn add_all(table: &[u8], y: Variable, names: &[u16], slots: &mut Numbers)
+    requires { NamesFor table.now names.now × FreeListed table.now slots.old }
+    ensures { Adding table.now y.0 names.now (records table.now) slots.new }
 {
-    let mut k = free;
     for i in 0..diagrams::count_records(table) {
-        k = add_if_dying(table, y, names, slots, k, RecordNumber(i));
+        add_if_dying(table, y, names, slots, RecordNumber(i));
     }
-    k
 }
 
 // After the free records of the list go those that die: y records that neither a root nor a record that keeps its references names.
-// How many slots there are.
-pub fn add_dying(table: &[u8], roots: &[u8], pair: Pair, slots: &mut [u16], free: usize) -> usize
-    requires { TableSizes table.now roots.now × (RoomFor table.now slots.old × FreeListed table.now slots.old free) }
-    ensures { SlotsListed table.now roots.now pair slots.new result }
+pub fn add_dying(table: &[u8], roots: &[u8], pair: Pair, slots: &mut Numbers)
+    requires { TableSizes table.now roots.now × FreeListed table.now slots.old }
+    ensures { SlotsListed table.now roots.now pair slots.new }
 {
     let mut names = super::no_names();
     super::count_names(&mut names, table, roots, pair);
-    add_all(table, pair.y, &names, slots, free)
+    add_all(table, pair.y, &names, slots);
 }

@@ -1,4 +1,5 @@
 pub mod Asked
+pub mod Work
 pub mod Searching
 pub mod Noting
 pub mod Reckoned

@@ -1,15 +1,12 @@
 -- What the code finds when X(a, b) is asked for is what the definition speaks of: among the standing records, among the new ones, and in the slots.
 use Prim.Native.Nat.{ℕ, ◌+◌, ◌≤◌, ◌<◌}
 use Rattle.std.proofs.Math.Bool.{Bool, cond, not}
-use Rattle.std.specs.Prelude.{true, false, ◌&&◌, ◌⊎◌, ◌≡◌, refl, eqb, ltb, length, get_or, take}
+use Rattle.std.specs.Prelude.{true, false, ◌&&◌, ◌⊎◌, ◌≡◌, refl, eqb, ltb, length, get_or}
 use mathlib.Core.List.{List, [], ◌∷◌, ◌++◌}
-use Rattle.std.proofs.Common.{inl, inr, ⊎_elim, ap₂, ◌∙◌, arith, get_or-take, length-take-le, ltb-true, lt-ltb, le-ltb, eqb-true, eq-eqb, ne_eqb}
+use Rattle.std.proofs.Common.{inl, inr, ⊎_elim, ap₂, ◌∙◌, arith, ltb-true, lt-ltb, le-ltb, eqb-true, eq-eqb, ne_eqb}
 use Rattle.std.proofs.Math.Path.{ap, sym}
-use Rattle.std.proofs.Math.ListN.{get_or-eq_default}
 use Rattle.std.proofs.lemmas.Bool.{eqb-false}
 use Rattle.lists.specs.Begins.{place_of}
-use Rattle.lists.specs.Collect.{Collected}
-use Rattle.lists.specs.Entries.{length_entries, entry_at_lem, entry_below}
 use Rattle.lists.specs.First.{first, any, first_agrees}
 use Rattle.lists.specs.Says.{either_side}
 use Rattle.lists.specs.Truth.{by}
@@ -22,36 +19,26 @@ use Rattle.diagrams.specs.Lookup.{lookup, at_decode}
 use Rattle.swap_rules.specs.Record.{low_of, high_of, is_of, same}
 use Rattle.swap_rules.specs.Swap.{crosses, stands, is_new}
 use Rattle.swap_records.specs.Kinds.{stands_at}
-use Rattle.swap_records.specs.Pairs.{PairRoom, pairs_of, put_at, length_pairs, pairs_at, put_next}
+use Rattle.swap_records.specs.Children.{children, nodes_of, length_nodes, nodes_at, nodes_more}
+use Rattle.swap_records.specs.Listed.{Lists, entry_below}
+use Rattle.swap_records.specs.declared.children.Children.{Children}
 use Rattle.swap_reckoning.specs.Asked.{stands_in, noted, settled_in}
-use Rattle.swap_reckoning.specs.Searching.{hits, matches_at, new_at, slot_at, News, note_pair, settled_at}
+use Rattle.swap_reckoning.specs.Searching.{hits, matches_at, new_at, slot_at, note_pair, settled_at}
 
--- ---- the new records: a search among the pairs is a search among the records
+-- ---- the new records: a search among their children is a search among the records
 
-module _ (x : ℕ) (p : News) where
-  abbrev pub news_of : List Node
-  news_of = pairs_of x p.list p.count
-
-  new_first : (a b : ℕ) → place_of (same (node x a b)) free news_of ≡ first (new_at p.list a b) p.count
-  unfolding new_at same
-  new_first a b =
-      rw (length_pairs x p.list p.count)
-      (first_agrees _ (new_at p.list a b) p.count (λ j h. ap (same (node x a b)) (pairs_at x p.list p.count j h) ∙ rw (eq-eqb x x refl)))
+new_first : (x : ℕ) (news : List Children) (a b : ℕ)
+    → place_of (same (node x a b)) free (nodes_of x news) ≡ first (new_at news (children a b)) (length news)
+unfolding new_at same
+new_first x news a b =
+    rw (length_nodes x news)
+    (first_agrees _ (new_at news (children a b)) (length news) (λ j h. ap (same (node x a b)) (nodes_at x news j h) ∙ rw (eq-eqb x x refl)))
 
 -- ---- the slots
 
--- slot j; record 0 past the last one
-slot_is : (list : List ℕ) (count j : ℕ) → count ≤ length list → slot_at list count j ≡ ref (get_or (take count list) j 0)
+slot_is : (slots : List ℕ) (j : ℕ) → slot_at slots j ≡ ref (get_or slots j 0)
 unfolding slot_at
-slot_is list count j room = two_more _ ∙ ap ref (either_side j count there past)
-  where
-    there : j < count → cond (ltb j count) (get_or list j 0) 0 ≡ get_or (take count list) j 0
-    there h = rw (lt-ltb j count h) (sym (get_or-take count list j 0 h))
-
-    past : count ≤ j → cond (ltb j count) (get_or list j 0) 0 ≡ get_or (take count list) j 0
-    past h =
-        let l : length (take count list) ≤ j = omega (arith, length-take-le count list room) in
-        rw (le-ltb j count h) (sym (get_or-eq_default (take count list) 0 l))
+slot_is slots j = two_more _
 
 -- ---- the records that stand: the code looks among these, the definition among all
 
@@ -81,9 +68,9 @@ module _ (t : List ℕ) (x y : ℕ) where
       go true c = refl
       go false c = rw (eqb_turned x (variable_at t j)) (regrouped (eqb (variable_at t j) x) (eqb a (low_at t j)) (eqb b (high_at t j)) (not c))
 
-  module _ {standing : List ℕ} {m : ℕ} (S : Collected (stands_at t x y) (records t) standing m) (a b : ℕ) where
+  module _ {standing : List ℕ} (S : Lists (stands_at t x y) (records t) standing) (a b : ℕ) where
     abbrev found : ℕ
-    found = first (matches_at t standing a b) m
+    found = first (matches_at t standing a b) (length standing)
 
     abbrev sought : ℕ
     sought = first (stands_in t x y (node x a b)) (records t)
@@ -96,56 +83,58 @@ module _ (t : List ℕ) (x y : ℕ) where
 
     found_is : found ≡ first (λ j. hits t a b (get_or all j 0)) (length all)
     unfolding matches_at
-    found_is = rw (length_entries S) (first_agrees _ _ m (λ j h. ap (hits t a b) (entry_at_lem S j h)))
+    found_is = ap (λ (l : List ℕ). first (λ j. hits t a b (get_or l j 0)) (length l)) S.is
 
-    standing_finds : found < m → get_or standing found 0 ≡ sought
-    standing_finds h = entry_at_lem S found h ∙ which_finds (stands_at t x y) (hits t a b) (records t) found found_is (rw (length_entries S) h) ∙ sym sought_is
+    standing_finds : found < length standing → get_or standing found 0 ≡ sought
+    standing_finds h =
+        ap (λ (l : List ℕ). get_or l found 0) S.is
+        ∙ which_finds (stands_at t x y) (hits t a b) (records t) found found_is (omega (arith, ap length S.is))
+        ∙ sym sought_is
 
-    standing_any : any (stands_in t x y (node x a b)) (records t) ≡ any (matches_at t standing a b) m
-    standing_any = either_side found m there missing
+    standing_any : any (stands_in t x y (node x a b)) (records t) ≡ any (matches_at t standing a b) (length standing)
+    standing_any = either_side found (length standing) there missing
       where
-        there : found < m → ltb sought (records t) ≡ ltb found m
+        there : found < length standing → ltb sought (records t) ≡ ltb found (length standing)
         there h =
             let e : get_or standing found 0 < records t = entry_below S found h in
-            lt-ltb sought (records t) (omega (arith, standing_finds h)) ∙ sym (lt-ltb found m h)
+            lt-ltb sought (records t) (omega (arith, standing_finds h)) ∙ sym (lt-ltb found (length standing) h)
 
-        missing : m ≤ found → ltb sought (records t) ≡ ltb found m
+        missing : length standing ≤ found → ltb sought (records t) ≡ ltb found (length standing)
         missing h =
             let s : first (λ j. stands_at t x y j && hits t a b j) (records t) ≡ records t =
-            which_misses (stands_at t x y) (hits t a b) (records t) found found_is (rw (length_entries S) h) in
-            le-ltb sought (records t) (omega (arith, sought_is)) ∙ sym (le-ltb found m h)
+            which_misses (stands_at t x y) (hits t a b) (records t) found found_is (omega (arith, ap length S.is)) in
+            le-ltb sought (records t) (omega (arith, sought_is)) ∙ sym (le-ltb found (length standing) h)
 
     -- ---- one request
 
-    pub pair_noted : (p : News) → PairRoom p.list p.count → news_of x (note_pair t standing m p a b) ≡ noted t x y (news_of x p) (node x a b)
+    pub pair_noted : (news : List Children) → nodes_of x (note_pair t standing news a b) ≡ noted t x y (nodes_of x news) (node x a b)
     unfolding note_pair noted is_new low_of high_of
-    pair_noted p room =
-        go (eqb a b) (any (matches_at t standing a b) m) (any (new_at p.list a b) p.count)
-        ∙ sym (ap₂ (λ (v w : Bool). cond (not (eqb a b) && not v) (cond w (news_of x p) longer) (news_of x p)) standing_any new_any)
+    pair_noted news =
+        go (eqb a b) (any (matches_at t standing a b) (length standing)) (any (new_at news (children a b)) (length news))
+        ∙ sym (ap₂ (λ (v w : Bool). cond (not (eqb a b) && not v) (cond w (nodes_of x news) longer) (nodes_of x news)) standing_any new_any)
       where
         longer : List Node
-        longer = news_of x p ++ (node x a b ∷ [])
+        longer = nodes_of x news ++ (node x a b ∷ [])
 
-        new_any : any (λ j. same (node x a b) (get_or (news_of x p) j free)) (length (news_of x p)) ≡ any (new_at p.list a b) p.count
-        new_any = ap₂ ltb (new_first x p a b) (length_pairs x p.list p.count)
+        new_any : any (λ j. same (node x a b) (get_or (nodes_of x news) j free)) (length (nodes_of x news)) ≡ any (new_at news (children a b)) (length news)
+        new_any = ap₂ ltb (new_first x news a b) (length_nodes x news)
 
-        go : (u v w : Bool) → news_of x (cond u p (cond v p (cond w p (record { list = put_at p.list p.count a b; count = p.count + 1 }))))
-            ≡ cond (not u && not v) (cond w (news_of x p) longer) (news_of x p)
+        go : (u v w : Bool) → nodes_of x (cond u news (cond v news (cond w news (news ++ (children a b ∷ [])))))
+            ≡ cond (not u && not v) (cond w (nodes_of x news) longer) (nodes_of x news)
         go true v w = refl
         go false true w = refl
         go false false true = refl
-        go false false false = put_next x p.list p.count a b room
+        go false false false = nodes_more x news (children a b)
 
-    pub settled_in_lem : (p : News) (list : List ℕ) (all_slots : ℕ) → all_slots ≤ length list
-        → settled_at t standing m p a b list all_slots ≡ settled_in t x y (take all_slots list) (news_of x p) a b
+    pub settled_in_lem : (news : List Children) (slots : List ℕ) → settled_at t standing news a b slots ≡ settled_in t x y slots (nodes_of x news) a b
     unfolding settled_at settled_in
-    settled_in_lem p list all_slots room = ap (cond (eqb a b) a) (rw standing_any (go (by (any (matches_at t standing a b) m))))
+    settled_in_lem news slots = ap (cond (eqb a b) a) (rw standing_any (go (by (any (matches_at t standing a b) (length standing)))))
       where
         place : ℕ
-        place = first (new_at p.list a b) p.count
+        place = first (new_at news (children a b)) (length news)
 
-        go : (any (matches_at t standing a b) m ≡ true) ⊎ (any (matches_at t standing a b) m ≡ false)
-            → cond (any (matches_at t standing a b) m) (get_or standing found 0 + 2) (slot_at list all_slots place)
-            ≡ ref (cond (any (matches_at t standing a b) m) sought (get_or (take all_slots list) (place_of (same (node x a b)) free (news_of x p)) 0))
+        go : (any (matches_at t standing a b) (length standing) ≡ true) ⊎ (any (matches_at t standing a b) (length standing) ≡ false)
+            → cond (any (matches_at t standing a b) (length standing)) (get_or standing found 0 + 2) (slot_at slots place)
+            ≡ ref (cond (any (matches_at t standing a b) (length standing)) sought (get_or slots (place_of (same (node x a b)) free (nodes_of x news)) 0))
         go (inl e) = rw e (two_more _ ∙ ap ref (standing_finds (ltb-true _ _ e)))
-        go (inr e) = rw e (slot_is list all_slots place room ∙ ap (λ j. ref (get_or (take all_slots list) j 0)) (sym (new_first x p a b)))
+        go (inr e) = rw e (slot_is slots place ∙ ap (λ j. ref (get_or slots j 0)) (sym (new_first x news a b)))

@@ -1,96 +1,95 @@
 // The reckoning of one swap: what its crossing records ask for, and where each asked for is found.
-// It reads the table and fills lists that the caller lends.
 #![tactic(auto)]
 
-ghost use Rattle.std.specs.Prelude.{◌≡◌};
+ghost use Rattle.std.specs.Prelude.{◌≡◌, ◌≤◌, length};
+ghost use Rattle.diagrams.specs.Layout.{most_records, records};
 ghost use Rattle.check_sizes.specs.Sizes.{TableSizes};
-ghost use Rattle.swap_reckoning.specs.Searching.{with_needed, with_slots};
-ghost use Rattle.swap_reckoning.specs.Reckoned.{SortRoom, TurnRoom, Sorted, FreeSlots, AllSlots, Reckoned};
+ghost use Rattle.swap_records.specs.Listed.{FreeListed};
+ghost use Rattle.swap_reckoning.specs.Work.{no_work, with_turns, AllSlots};
+ghost use Rattle.swap_reckoning.specs.Reckoned.{Sorted, Reckoned};
 
+use news::{Kept, News, Sources};
 use swap_names::dying;
+use swap_records::children::Children;
+use swap_records::collect::Numbers;
 use swap_records::{Pair, collect};
 
 pub mod news;
 
-// How many records cross, stand, are new (0 until that is reckoned) and are free, and how many slots are listed for new ones.
+// How many records a swap makes, how many are free before it, and how many slots are listed for new ones.
 #[derive(Clone, Copy)]
 pub struct Counts {
-    pub crossing: usize,
-    pub standing: usize,
     pub needed: usize,
     pub free: usize,
     pub slots: usize,
 }
 
-impl Counts {
-    // The same, with so many new records.
-    fn with_needed(self, needed: usize) -> Counts
-        ensures { result ≡ with_needed self needed }
+// The lists of one swap.
+#[derive(Drop)]
+pub struct Work {
+    // The x records, those that cross and those that stand.
+    pub crossing: Numbers,
+    pub standing: Numbers,
+    // Where new records go.
+    pub slots: Numbers,
+    // The new records, and what each crossing record becomes.
+    pub news: News,
+    pub kept: Kept,
+}
+
+impl Work {
+    pub fn new() -> Work
+        ensures { result ≡ no_work }
     {
-        Counts { needed, ..self }
+        let none = Children { low: 0, high: 0 };
+        Work {
+            crossing: Numbers::new(0),
+            standing: Numbers::new(0),
+            slots: Numbers::new(0),
+            news: News::new(none),
+            kept: Kept::new(none),
+        }
     }
 
-    // The same, with so many slots.
-    fn with_slots(self, slots: usize) -> Counts
-        ensures { result ≡ with_slots self slots }
+    // The records of each kind. The free ones are the first slots.
+    pub fn sort_records(&mut self, table: &[u8], pair: Pair)
+        requires { (records table.now ≤ most_records) × (self.old ≡ no_work) }
+        ensures { Sorted table.now pair self.new × FreeListed table.now self.new.slots }
     {
-        Counts { slots, ..self }
+        collect::collect_x(table, pair, &mut self.crossing, &mut self.standing);
+        collect::collect_free(table, &mut self.slots);
     }
-}
 
-// The records of each kind, in lists. The free ones are the first slots.
-pub fn sort_records(
-    table: &[u8],
-    pair: Pair,
-    crossing: &mut [u16],
-    standing: &mut [u16],
-    slots: &mut [u16],
-) -> Counts
-    requires { SortRoom table.now crossing.old standing.old slots.old }
-    ensures { Sorted table.now pair crossing.new standing.new slots.new result
-        × FreeSlots table.now slots.new result }
-{
-    let split = collect::collect_x(table, pair, crossing, standing);
-    let free = collect::collect_free(table, slots);
-    Counts {
-        crossing: split.crossing,
-        standing: split.standing,
-        needed: 0,
-        free,
-        slots: free,
+    // What dies goes after the free records: all the slots there are.
+    pub fn add_dying(&mut self, table: &[u8], roots: &[u8], pair: Pair)
+        requires { TableSizes table.now roots.now × FreeListed table.now self.old.slots }
+        ensures { AllSlots table.now roots.now pair self.old self.new }
+    {
+        dying::add_dying(table, roots, pair, &mut self.slots);
     }
-}
 
-// What dies goes after the free records: all the slots there are.
-pub fn all_slots(
-    table: &[u8],
-    roots: &[u8],
-    pair: Pair,
-    slots: &mut [u16],
-    counts: Counts,
-) -> Counts
-    requires { TableSizes table.now roots.now × FreeSlots table.now slots.old counts }
-    ensures { AllSlots table.now roots.now pair slots.new counts result }
-{
-    let all = dying::add_dying(table, roots, pair, slots, counts.free);
-    counts.with_slots(all)
-}
+    // Fills the lists of new records, and of what each crossing record becomes.
+    pub fn reckon(&mut self, table: &[u8], pair: Pair)
+        requires { Sorted table.now pair self.old }
+        ensures { Reckoned table.now pair self.new × (self.new ≡ with_turns self.old self.new.news self.new.kept) }
+    {
+        let sources = Sources {
+            table,
+            pair,
+            standing: self.standing.as_slice(),
+            slots: self.slots.as_slice(),
+        };
+        sources.take_turns(self.crossing.as_slice(), &mut self.news, &mut self.kept);
+    }
 
-// Fills the lists of new records, and of what each crossing record becomes. How many are new.
-pub fn reckon(
-    table: &[u8],
-    pair: Pair,
-    crossing: &[u16],
-    standing: &[u16],
-    slots: &[u16],
-    news: &mut [u16],
-    kept: &mut [u16],
-    start: Counts,
-) -> Counts
-    requires { Sorted table.now pair crossing.now standing.now slots.now start × TurnRoom news.old kept.old }
-    ensures { Reckoned table.now pair crossing.now slots.now news.new kept.new result
-        × (result ≡ with_needed start result.needed) }
-{
-    let needed = news::take_turns(table, pair, crossing, standing, slots, news, kept, start);
-    start.with_needed(needed)
+    // After the reckoning, where so many records are free.
+    pub fn counts(&self, free: usize) -> Counts
+        ensures { (result.needed ≡ length self.now.news) × (result.free ≡ free) × (result.slots ≡ length self.now.slots) }
+    {
+        Counts {
+            needed: self.news.len(),
+            free,
+            slots: self.slots.len(),
+        }
+    }
 }

@@ -1,195 +1,125 @@
 // The new x records: which are asked for, in the order of first need, and the reference X(a, b) that each request settles on.
-ghost use Rattle.std.specs.Prelude.{◌≡◌, ◌+◌, ◌*◌, ◌<◌, ◌≤◌, length, get_or};
+ghost use Rattle.std.specs.Prelude.{◌≡◌, ◌+◌, ◌<◌, [], length, get_or};
 ghost use Rattle.lists.specs.Found.{found};
-ghost use Rattle.diagrams.specs.Layout.{most_records, InTable};
-ghost use Rattle.swap_records.specs.Listed.{Inside};
-ghost use Rattle.swap_records.specs.Pairs.{PairRoom};
+ghost use Rattle.diagrams.specs.Layout.{InTable};
+ghost use Rattle.swap_records.specs.Listed.{CrossingListed, Inside};
 ghost use Rattle.swap_reckoning.specs.Searching.{matches_at, new_at, slot_at, Searchable, Noted};
-ghost use Rattle.swap_reckoning.specs.Reckoned.{TurnRoom, Asks, Answered, Sorted, slots_of, Turn, Turns};
+ghost use Rattle.swap_reckoning.specs.Reckoned.{Asks, Answered, Ready, Turn, Turns};
 
-use super::Counts;
 use diagrams::{MOST_RECORDS, RecordNumber, Reference};
-use swap_records::{Pair, collect, pairs};
+use swap_records::children::Children;
+use swap_records::fixed_list::FixedList;
+use swap_records::{Pair, collect};
 
-pub fn no_news() -> [u16; 4 * MOST_RECORDS]
-    ensures { length result ≡ 4 * most_records }
-{
-    [0u16; 4 * MOST_RECORDS]
-}
+// Each crossing record asks for at most two new ones.
+pub const MOST_NEWS: usize = 2 * MOST_RECORDS;
 
-pub fn none_kept() -> [u16; 2 * MOST_RECORDS]
-    ensures { length result ≡ 2 * most_records }
-{
-    [0u16; 2 * MOST_RECORDS]
-}
+pub type News = FixedList<Children, MOST_NEWS>;
 
-// Is entry k of the standing records the one with low a and high b?
-fn matches(table: &[u8], standing: &[u16], k: usize, a: Reference, b: Reference) -> bool
-    requires { (k < length standing.now) × InTable table.now (get_or standing.now k 0) }
-    ensures { result ≡ matches_at table.now standing.now a.0 b.0 k }
-{
-    let i = collect::entry(standing, k);
-    (a == i.low(table)) & (b == i.high(table))
-}
+// What each crossing record becomes.
+pub type Kept = FixedList<Children, MOST_RECORDS>;
 
-fn find_standing(
-    table: &[u8],
-    standing: &[u16],
-    count: usize,
-    a: Reference,
-    b: Reference,
-) -> Option<usize>
-    requires { Inside table.now standing.now count }
-    ensures { result ≡ found (matches_at table.now standing.now a.0 b.0) count }
+// Which of the new records is the wanted one?
+fn find_new(news: &[Children], wanted: Children) -> Option<usize>
+    ensures { result ≡ found (new_at news.now wanted) (length news.now) }
 {
-    (0..count).find(|&k| matches(table, standing, k, a, b))
-}
-
-// Is entry k of the new records the one with low a and high b?
-fn is_new(news: &[u16], k: usize, a: Reference, b: Reference) -> bool
-    requires { PairRoom news.now k }
-    ensures { result ≡ new_at news.now a.0 b.0 k }
-{
-    let (low, high) = pairs::get(news, k);
-    (a == low) & (b == high)
-}
-
-fn find_new(news: &[u16], count: usize, a: Reference, b: Reference) -> Option<usize>
-    requires { 2 * count ≤ length news.now }
-    ensures { result ≡ found (new_at news.now a.0 b.0) count }
-{
-    (0..count).find(|&k| is_new(news, k, a, b))
-}
-
-// The reference of the slot that new record j goes into. Past the last one there is no room, and nobody uses the number.
-fn slot(slots: &[u16], count: usize, j: usize) -> Reference
-    requires { count ≤ length slots.now }
-    ensures { result.0 ≡ slot_at slots.now count j }
-{
-    if j < count {
-        return collect::entry(slots, j).reference();
+    // The hottest loop of a swap: a `for` compiles to fewer steps here than `find`.
+    for k in 0..news.len() {
+        if wanted == news[k] {
+            return Some(k);
+        }
     }
-    RecordNumber(0).reference()
+    None
 }
 
-// The reference X(a, b), and how many records are new then.
+// What a swap reads while it is reckoned: the table, the records that stand, and the slots for new ones.
 #[derive(Clone, Copy)]
-pub struct Settled {
-    pub reference: Reference,
-    pub needed: usize,
+pub struct Sources<'a> {
+    pub table: &'a [u8],
+    pub pair: Pair,
+    pub standing: &'a [u16],
+    pub slots: &'a [u16],
 }
 
-// X(a, b) is asked for: a itself, a standing record, one that is new already, or one more new one.
-fn note(
-    table: &[u8],
-    standing: &[u16],
-    slots: &[u16],
-    news: &mut [u16],
-    counts: Counts,
-    a: Reference,
-    b: Reference,
-) -> Settled
-    requires { Searchable table.now standing.now slots.now news.old counts × ((a.0 < 65536) × (b.0 < 65536)) }
-    ensures { Noted table.now standing.now slots.now news.old counts a.0 b.0 news.new result }
-{
-    let needed = counts.needed;
-    if a == b {
-        return Settled {
-            reference: a,
-            needed,
-        };
+impl Sources<'_> {
+    // Is entry k of the standing records the one with low a and high b?
+    fn matches(self, k: usize, a: Reference, b: Reference) -> bool
+        requires { (k < length self.standing.now) × InTable self.table.now (get_or self.standing.now k 0) }
+        ensures { result ≡ matches_at self.entry.table.now self.entry.standing.now a.0 b.0 k }
+    {
+        let i = collect::entry(self.standing, k);
+        (a == i.low(self.table)) & (b == i.high(self.table))
     }
-    if let Some(k) = find_standing(table, standing, counts.standing, a, b) {
-        let reference = collect::entry(standing, k).reference();
-        return Settled { reference, needed };
-    }
-    if let Some(j) = find_new(news, needed, a, b) {
-        let reference = slot(slots, counts.slots, j);
-        return Settled { reference, needed };
-    }
-    pairs::put(news, needed, a, b);
-    Settled {
-        reference: slot(slots, counts.slots, needed),
-        needed: needed + 1,
-    }
-}
 
-// What a crossing record becomes, and how many records are new then.
-#[derive(Clone, Copy)]
-pub struct Crossed {
-    pub low: Reference,
-    pub high: Reference,
-    pub needed: usize,
-}
-
-// Record i asks for low X(f00, f10), then for high X(f01, f11).
-fn note_both(
-    table: &[u8],
-    pair: Pair,
-    standing: &[u16],
-    slots: &[u16],
-    news: &mut [u16],
-    counts: Counts,
-    i: RecordNumber,
-) -> Crossed
-    requires { Asks table.now pair standing.now slots.now news.old counts i.0 }
-    ensures { Answered table.now pair (slots_of counts slots.now) i.0 news.old counts.needed
-        news.new result }
-{
-    let g = swap_records::four(table, pair.y, i);
-    let first = note(table, standing, slots, news, counts, g.f00, g.f10);
-    let then = counts.with_needed(first.needed);
-    let second = note(table, standing, slots, news, then, g.f01, g.f11);
-    Crossed {
-        low: first.reference,
-        high: second.reference,
-        needed: second.needed,
+    // Which of the standing records has low a and high b?
+    fn find_standing(self, a: Reference, b: Reference) -> Option<usize>
+        requires { Inside self.table.now self.standing.now }
+        ensures { let s = self.entry in
+            result ≡ found (matches_at s.table.now s.standing.now a.0 b.0) (length s.standing.now) }
+    {
+        (0..self.standing.len()).find(|&k| self.matches(k, a, b))
     }
-}
 
-// It is the turn of crossing record k; what it becomes is kept. How many records are new then.
-fn take_turn(
-    table: &[u8],
-    pair: Pair,
-    crossing: &[u16],
-    standing: &[u16],
-    slots: &[u16],
-    news: &mut [u16],
-    kept: &mut [u16],
-    counts: Counts,
-    k: usize,
-) -> usize
-    requires { Turn table.now pair crossing.now standing.now slots.now news.old kept.old counts k }
-    ensures { Turns table.now pair (slots_of counts slots.now) crossing.now news.new kept.new
-        result (k + 1) }
-{
-    let i = collect::entry(crossing, k);
-    let r = note_both(table, pair, standing, slots, news, counts, i);
-    pairs::put(kept, k, r.low, r.high);
-    r.needed
-}
-
-// All crossing records, in rising number. How many records are new.
-pub fn take_turns(
-    table: &[u8],
-    pair: Pair,
-    crossing: &[u16],
-    standing: &[u16],
-    slots: &[u16],
-    news: &mut [u16],
-    kept: &mut [u16],
-    start: Counts,
-) -> usize
-    requires { Sorted table.now pair crossing.now standing.now slots.now start × TurnRoom news.old kept.old }
-    ensures { Turns table.now pair (slots_of start slots.now) crossing.now news.new kept.new
-        result start.crossing }
-{
-    let mut needed = 0;
-    for k in 0..start.crossing {
-        let counts = start.with_needed(needed);
-        needed = take_turn(
-            table, pair, crossing, standing, slots, news, kept, counts, k,
-        );
+    // The reference of the slot that new record j goes into. Past the last one there is no room, and nobody uses the number.
+    fn slot(self, j: usize) -> Reference
+        ensures { result.0 ≡ slot_at self.entry.slots.now j }
+    {
+        if j < self.slots.len() {
+            return collect::entry(self.slots, j).reference();
+        }
+        RecordNumber(0).reference()
     }
-    needed
+
+    // X(a, b) is asked for: a itself, a standing record, one that is new already, or one more new one.
+    fn note(self, news: &mut News, a: Reference, b: Reference) -> Reference
+        requires { Searchable self.table.now self.standing.now self.slots.now news.old × ((a.0 < 65536) × (b.0 < 65536)) }
+        ensures { let s = self.entry in
+            Noted s.table.now s.standing.now s.slots.now news.old a.0 b.0 news.new result.0 }
+    {
+        if a == b {
+            return a;
+        }
+        if let Some(k) = self.find_standing(a, b) {
+            return collect::entry(self.standing, k).reference();
+        }
+        let wanted = Children::new(a, b);
+        if let Some(j) = find_new(news.as_slice(), wanted) {
+            return self.slot(j);
+        }
+        let end = news.len();
+        news.push(wanted);
+        self.slot(end)
+    }
+
+    // What the crossing record i becomes: it asks for low X(f00, f10), then for high X(f01, f11).
+    fn note_both(self, news: &mut News, i: RecordNumber) -> Children
+        requires { Asks self.table.now self.pair self.standing.now self.slots.now news.old i.0 }
+        ensures { let s = self.entry in
+            Answered s.table.now s.pair s.slots.now i.0 news.old news.new result }
+    {
+        let g = swap_records::four(self.table, self.pair.y, i);
+        let low = self.note(news, g.f00, g.f10);
+        let high = self.note(news, g.f01, g.f11);
+        Children::new(low, high)
+    }
+
+    // It is the turn of crossing record k; what it becomes is kept.
+    fn take_turn(self, crossing: &[u16], k: usize, news: &mut News, kept: &mut Kept)
+        requires { Turn self.table.now self.pair crossing.now self.standing.now self.slots.now news.old kept.old k }
+        ensures { let s = self.entry in
+            Turns s.table.now s.pair s.slots.now crossing.now news.new kept.new (k + 1) }
+    {
+        kept.push(self.note_both(news, collect::entry(crossing, k)));
+    }
+
+    // All crossing records, in rising number.
+    pub fn take_turns(self, crossing: &[u16], news: &mut News, kept: &mut Kept)
+        requires { Ready self.table.now self.pair crossing.now self.standing.now self.slots.now × ((news.old ≡ []) × (kept.old ≡ [])) }
+        ensures { let s = self.entry in
+            Turns s.table.now s.pair s.slots.now crossing.now news.new kept.new (length crossing.now) }
+    {
+        for k in 0..crossing.len() {
+            self.take_turn(crossing, k, news, kept);
+        }
+    }
 }

@@ -1,16 +1,15 @@
 -- What a record is to a swap, by its bytes: one law for each way out of a function, over plain variables.
 use Prim.Native.Nat.{ℕ, ◌+◌, ◌-◌, ◌≤◌, ◌<◌}
-use mathlib.Core.Bool.{Bool, true, false, not, ◌&&◌, ◌||◌}
-use mathlib.Core.List.{List}
+use mathlib.Core.Bool.{Bool, true, false, cond, not, ◌&&◌, ◌||◌}
+use mathlib.Core.List.{List, [], ◌∷◌, ◌++◌}
 use mathlib.Core.Path.{◌≡◌, refl, sym, ◌∙◌}
 use native.Mathlib.Omega.{arith}
 use borrow.Author.Rules.{rules}
-use borrow.Author.Tests.{eqb-true, eqb-false, not-true, not-false}
+use borrow.Author.Tests.{eqb-true, eqb-false}
 use lib.Dec.{eqb}
 use lib.ListN.{length}
-use Rattle.lists.specs.Collect.{Pushed}
 use Rattle.lists.specs.Says.{either_side}
-use Rattle.diagrams.specs.Layout.{records, variable_at, low_at, high_at, is_free, is_used, InTable}
+use Rattle.diagrams.specs.Layout.{most_records, records, variable_at, low_at, high_at, is_free, is_used, InTable}
 use Rattle.diagrams.specs.Node.{free, pick, at, ref}
 use Rattle.diagrams.specs.Decode.{decode}
 use Rattle.diagrams.specs.Lookup.{lookup, node_of, free_of, past_of, Stored, record_at, stored}
@@ -19,9 +18,8 @@ use Rattle.diagrams.proofs.Reduced.{look_ends}
 use Rattle.swap_rules.specs.Record.{low_of, high_of, is_of, of_true}
 use Rattle.swap_rules.specs.Swap.{grandchild, crosses}
 use Rattle.swap_records.specs.Kinds.{of_at, crosses_at, stands_at, child_at, of_is}
-use Rattle.swap_records.specs.Listed.{RoomFor, Splits, Splitting, listing_begins, listing_room, listing_small, listing_passes, listing_goes, listing_ends}
+use Rattle.swap_records.specs.Listed.{Splits, adds_begins, adds_passes, adds_goes, lists_room}
 use Rattle.swap_records.specs.declared.Pair.{Pair}
-use Rattle.swap_records.specs.declared.collect.Split.{Split}
 
 -- ---- a used record of a variable
 
@@ -95,23 +93,33 @@ grand_of way t y i side p e f l = rw (node_of t i (omega arith) (eqb-false (vari
 -- ---- the x records, split
 
 module _ {t : List ℕ} {p : Pair} {crossing standing : List ℕ} where
-  pub split_begins : RoomFor t crossing → RoomFor t standing → Splitting t p 0 crossing standing (record { crossing = 0; standing = 0 })
-  split_begins c s = record { crosses = listing_begins refl c; stands = listing_begins refl s }
+  pub split_begins : records t ≤ most_records → crossing ≡ [] → standing ≡ [] → Splits t p 0 crossing standing
+  split_begins few c s = record { few = few; crossing_are = adds_begins c; standing_are = adds_begins s }
 
-  module _ {i : ℕ} {s : Split} (w : Splitting t p i crossing standing s) where
-    pub split_passes : {b : Bool} → b ≡ of_at t p.x.0 i → b ≡ false → i < records t → Splitting t p (i + 1) crossing standing s
+  module _ {i : ℕ} (w : Splits t p i crossing standing) where
+    pub split_passes : {b : Bool} → b ≡ of_at t p.x.0 i → b ≡ false → Splits t p (i + 1) crossing standing
     unfolding crosses stands_at
-    split_passes e h l = record { crosses = listing_passes w.crosses (rw (sym e ∙ h)) l; stands = listing_passes w.stands (rw (sym e ∙ h)) l }
+    split_passes e h = record {
+      few = w.few;
+      crossing_are = adds_passes w.crossing_are (rw (sym e ∙ h));
+      standing_are = adds_passes w.standing_are (rw (sym e ∙ h));
+    }
+
+    pub crossing_room : i < records t → length crossing < most_records
+    crossing_room l = lists_room w.crossing_are l w.few
+
+    pub standing_room : i < records t → length standing < most_records
+    standing_room l = lists_room w.standing_are l w.few
 
     -- an x record crosses or stands
-    pub split_goes : {b c : Bool} {crossing' standing' : List ℕ} {j k : ℕ} → b ≡ of_at t p.x.0 i → b ≡ true → c ≡ crosses_at t p.x.0 p.y.0 i
-        → Pushed c i crossing s.crossing crossing' j → length crossing' ≡ length crossing
-        → Pushed (not c) i standing s.standing standing' k → length standing' ≡ length standing
-        → i < records t → Splitting t p (i + 1) crossing' standing' (record { crossing = j; standing = k })
+    pub split_goes : {b c : Bool} {crossing' standing' : List ℕ} → b ≡ of_at t p.x.0 i → b ≡ true → c ≡ crosses_at t p.x.0 p.y.0 i
+        → crossing' ≡ crossing ++ cond c (i ∷ []) [] → standing' ≡ standing ++ cond (not c) (i ∷ []) []
+        → Splits t p (i + 1) crossing' standing'
     unfolding stands_at
-    split_goes e h d f a g b l = record { crosses = listing_goes w.crosses d f a l; stands = listing_goes w.stands (rw (sym e ∙ h, d)) g b l }
+    split_goes e h d f g =
+        record { few = w.few; crossing_are = adds_goes w.crossing_are d f; standing_are = adds_goes w.standing_are (rw (sym e ∙ h, d)) g }
 
-    pub split_ends : records t ≤ i → Splits t p crossing standing s
-    split_ends l = record { crossing_are = listing_ends w.crosses l; standing_are = listing_ends w.stands l }
+    pub split_ends : {n : ℕ} → i ≡ n → Splits t p n crossing standing
+    split_ends e = rw (← e) w
 
-pub ruleset splitting = (split_begins, split_passes, split_goes, split_ends, listing_room, listing_small, not-true, not-false, rules)
+pub ruleset splitting = (split_begins, split_passes, crossing_room, standing_room, split_goes, split_ends, rules)

@@ -2,4 +2,4 @@ pub mod Kinds
 pub mod Sides
 pub mod Listed
 pub mod Grands
-pub mod Pairs
+pub mod Children

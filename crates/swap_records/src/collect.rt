@@ -1,13 +1,16 @@
 // The records of this swap, collected once: those of x, split into crossing and standing ones, and the free ones.
-ghost use Rattle.std.specs.Prelude.{◌≡◌, ◌+◌, ◌<◌, length, get_or};
-ghost use Rattle.lists.specs.Collect.{Pushed};
+ghost use Rattle.std.specs.Prelude.{◌≡◌, ◌+◌, ◌≤◌, ◌<◌, [], length, get_or};
 ghost use Rattle.diagrams.specs.Layout.{most_records, records};
-ghost use Rattle.swap_records.specs.Listed.{RoomFor, FreeListed, Splitting, Splits};
+ghost use Rattle.swap_records.specs.Listed.{FreeListed, Splits};
 
 use super::Pair;
+use super::fixed_list::FixedList;
 use diagrams::{MOST_RECORDS, RecordNumber};
 
-// Entry k of a list of records.
+// Numbers of records, with room for all that there can be.
+pub type Numbers = FixedList<u16, MOST_RECORDS>;
+
+// Entry k of a list of record numbers.
 pub fn entry(list: &[u16], k: usize) -> RecordNumber
     requires { k < length list.now }
     ensures { (result.0 ≡ get_or list.now k 0) × (result.0 < 65536) }
@@ -15,38 +18,13 @@ pub fn entry(list: &[u16], k: usize) -> RecordNumber
     RecordNumber(usize::from(list[k]))
 }
 
-pub fn no_entries() -> [u16; MOST_RECORDS]
-    ensures { length result ≡ most_records }
+pub fn collect_free(table: &[u8], list: &mut Numbers)
+    requires { (records table.now ≤ most_records) × (list.old ≡ []) }
+    ensures { FreeListed table.now list.new }
 {
-    [0u16; MOST_RECORDS]
-}
-
-// One entry more where the flag says so. It is written in any case, which costs less than a branch.
-pub fn push_if(list: &mut [u16], k: usize, b: bool, i: RecordNumber) -> usize
-    requires { (k < length list.old) × (i.0 < 65536) }
-    ensures { Pushed b i.0 list.old k list.new result }
-{
-    list[k] = i.0 as u16;
-    k + usize::from(b)
-}
-
-pub fn collect_free(table: &[u8], list: &mut [u16]) -> usize
-    requires { RoomFor table.now list.old }
-    ensures { FreeListed table.now list.new result }
-{
-    let mut k = 0;
     for i in 0..diagrams::count_records(table) {
-        let number = RecordNumber(i);
-        k = push_if(list, k, number.is_free(table), number);
+        list.push_if(RecordNumber(i).is_free(table), i as u16);
     }
-    k
-}
-
-// How many of the x records cross, and how many stand.
-#[derive(Clone, Copy)]
-pub struct Split {
-    pub crossing: usize,
-    pub standing: usize,
 }
 
 // Record i goes to the list that it belongs to, if it is a record of x.
@@ -54,33 +32,24 @@ fn split_record(
     table: &[u8],
     pair: Pair,
     i: RecordNumber,
-    crossing: &mut [u16],
-    standing: &mut [u16],
-    at: Split,
-) -> Split
-    requires { Splitting table.now pair i.0 crossing.old standing.old at × (i.0 < records table.now) }
-    ensures { Splitting table.now pair (i.0 + 1) crossing.new standing.new result }
+    crossing: &mut Numbers,
+    standing: &mut Numbers,
+)
+    requires { Splits table.now pair i.0 crossing.old standing.old × (i.0 < records table.now) }
+    ensures { Splits table.now pair (i.0 + 1) crossing.new standing.new }
 {
-    if !super::is_record_of(table, pair.x, i) {
-        return at;
-    }
-    let crosses = super::is_crossing(table, pair, i);
-    Split {
-        crossing: push_if(crossing, at.crossing, crosses, i),
-        standing: push_if(standing, at.standing, !crosses, i),
+    if super::is_record_of(table, pair.x, i) {
+        let crosses = super::is_crossing(table, pair, i);
+        crossing.push_if(crosses, i.0 as u16);
+        standing.push_if(!crosses, i.0 as u16);
     }
 }
 
-pub fn collect_x(table: &[u8], pair: Pair, crossing: &mut [u16], standing: &mut [u16]) -> Split
-    requires { RoomFor table.now crossing.old × RoomFor table.now standing.old }
-    ensures { Splits table.now pair crossing.new standing.new result }
+pub fn collect_x(table: &[u8], pair: Pair, crossing: &mut Numbers, standing: &mut Numbers)
+    requires { (records table.now ≤ most_records) × ((crossing.old ≡ []) × (standing.old ≡ [])) }
+    ensures { Splits table.now pair (records table.now) crossing.new standing.new }
 {
-    let mut at = Split {
-        crossing: 0,
-        standing: 0,
-    };
     for i in 0..diagrams::count_records(table) {
-        at = split_record(table, pair, RecordNumber(i), crossing, standing, at);
+        split_record(table, pair, RecordNumber(i), crossing, standing);
     }
-    at
 }

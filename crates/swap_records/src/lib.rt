@@ -13,8 +13,9 @@ ghost use Rattle.swap_records.specs.Grands.{Grands};
 
 use diagrams::{RecordNumber, Reference, Variable};
 
+pub mod children;
 pub mod collect;
-pub mod pairs;
+pub mod fixed_list;
 
 // The variables of the two levels that change places: x is the upper one, y the lower.
 #[derive(Clone, Copy)]

@@ -1,5 +1,5 @@
 -- The records of the image: one law for each way out of a function, over plain variables.
-use Prim.Native.Nat.{ℕ, ◌+◌, ◌<◌}
+use Prim.Native.Nat.{ℕ}
 use mathlib.Core.List.{List}
 use mathlib.Core.Path.{◌≡◌}
 use native.Mathlib.Omega.{arith}
@@ -10,8 +10,9 @@ use Rattle.diagrams.specs.Node.{free}
 use Rattle.diagrams.specs.Decode.{node_at, eight}
 use Rattle.diagrams.specs.Store.{meant, stored_at}
 use Rattle.diagrams.specs.declared.Record.{Record}
-use Rattle.swap_records.specs.Listed.{Inside, entry_inside, entries}
-use Rattle.swap_records.specs.Pairs.{pair_at}
+use Rattle.swap_records.specs.Listed.{entries}
+use Rattle.swap_records.specs.Children.{children_at, with_variable}
+use Rattle.swap_records.specs.declared.children.Children.{Children}
 use Rattle.swap_result.specs.Image.{stayed, freed, placed}
 
 -- ---- the loops that store records
@@ -19,22 +20,17 @@ use Rattle.swap_result.specs.Image.{stayed, freed, placed}
 pub storing_inside : {step : List ℕ → ℕ → List ℕ} {start : List ℕ} {m k : ℕ} {l : List ℕ} (i : ℕ) → Writes step start m k l → InTable start i → InTable l i
 storing_inside i w h = omega (arith, w.same)
 
-pub freed_inside : {step : List ℕ → ℕ → List ℕ} {start numbers l : List ℕ} (from : ℕ) {count k i : ℕ} → Writes step start count k l
-    → Inside start numbers (from + count) → i ≡ get_or numbers (from + k) 0 → k < count → InTable l i
-freed_inside from w s e h = omega (arith, entry_inside s (omega arith) e, w.same)
-
 pub stays_stored : (t l : List ℕ) (i : ℕ) (f : Record) {l' : List ℕ} → meant f ≡ node_at t i → l' ≡ stored_at l i (eight (meant f)) → l' ≡ stayed t l i
 unfolding stayed
 stays_stored t l i f p q = rw (← p) q
 
-pub free_stored : (from : ℕ) (numbers l : List ℕ) (k : ℕ) {i : ℕ} {l' : List ℕ} → i ≡ get_or numbers (from + k) 0
-    → l' ≡ stored_at l i (eight free) → l' ≡ freed from numbers l k
+pub free_stored : (numbers l : List ℕ) (k : ℕ) {i : ℕ} {l' : List ℕ} → i ≡ get_or numbers k 0 → l' ≡ stored_at l i (eight free) → l' ≡ freed numbers l k
 unfolding freed
-free_stored from numbers l k e q = rw (← e) q
+free_stored numbers l k e q = rw (← e) q
 
-pub pair_stored : (v : ℕ) (pairs numbers l : List ℕ) (k : ℕ) (f : Record) {i : ℕ} {l' : List ℕ} → meant f ≡ pair_at v pairs k → i ≡ get_or numbers k 0
-    → l' ≡ stored_at l i (eight (meant f)) → l' ≡ placed v pairs numbers l k
+pub record_placed : (v : ℕ) (children : List Children) (numbers l : List ℕ) (k : ℕ) (f : Record) {i : ℕ} {l' : List ℕ}
+    → meant f ≡ with_variable v (children_at children k) → i ≡ get_or numbers k 0 → l' ≡ stored_at l i (eight (meant f)) → l' ≡ placed v children numbers l k
 unfolding placed
-pair_stored v pairs numbers l k f p e q = rw (← p, ← e) q
+record_placed v children numbers l k f p e q = rw (← p, ← e) q
 
-pub ruleset storing = (storing_inside, freed_inside, stays_stored, free_stored, pair_stored, writes, entries)
+pub ruleset storing = (storing_inside, stays_stored, free_stored, record_placed, writes, entries)

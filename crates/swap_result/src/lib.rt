@@ -1,17 +1,18 @@
 // The table after a swap, in an image: the records as they were, and over them what dies, the new ones and the crossed ones.
 #![tactic(auto)]
 
-ghost use Rattle.std.specs.Prelude.{◌≡◌, ◌+◌, ◌*◌, ◌<◌, ◌≤◌, length};
+ghost use Rattle.std.specs.Prelude.{◌≡◌, ◌<◌, ◌≤◌, length};
 ghost use Rattle.lists.specs.Fold.{fold};
 ghost use Rattle.diagrams.specs.Layout.{records};
 ghost use Rattle.diagrams.specs.Store.{meant, Fit};
+ghost use Rattle.swap_records.specs.Children.{with_variable};
 ghost use Rattle.swap_records.specs.Listed.{Inside};
-ghost use Rattle.swap_records.specs.Pairs.{PairRoom, pair_at};
 ghost use Rattle.swap_result.specs.Image.{stayed, freed, placed, living, Copyable, Fillable, Filled};
 
 use diagrams::{Record, RecordNumber, Variable};
-use swap_reckoning::Counts;
-use swap_records::{Pair, collect, pairs};
+use swap_reckoning::Work;
+use swap_records::children::Children;
+use swap_records::{Pair, collect};
 
 // ---- the records that stay, and those that die
 
@@ -25,68 +26,63 @@ fn copy_records(table: &[u8], image: &mut [u8])
     }
 }
 
-// Each record becomes free whose number stands in the list, from a place on.
-fn free_records(numbers: &[u16], from: usize, count: usize, image: &mut [u8])
-    requires { Inside image.old numbers.now (from + count) }
-    ensures { image.new ≡ fold (freed from numbers.now) image.old count }
+// Each record becomes free whose number stands in the list.
+fn free_records(numbers: &[u16], image: &mut [u8])
+    requires { Inside image.old numbers.now }
+    ensures { image.new ≡ fold (freed numbers.now) image.old (length numbers.now) }
 {
-    for k in 0..count {
-        Record::Free.store(image, collect::entry(numbers, from + k));
+    for k in 0..numbers.len() {
+        Record::Free.store(image, collect::entry(numbers, k));
     }
 }
 
-// The records as they were, but free where they die: the slots after the free ones.
-fn copy_living(table: &[u8], slots: &[u16], counts: Counts, image: &mut [u8])
-    requires { Copyable table.now slots.now counts image.old }
-    ensures { image.new ≡ living table.now slots.now counts image.old }
+// The records as they were, but free where they die.
+fn copy_living(table: &[u8], dying: &[u16], image: &mut [u8])
+    requires { Copyable table.now dying.now image.old }
+    ensures { image.new ≡ living table.now dying.now image.old }
 {
     copy_records(table, image);
-    free_records(slots, counts.free, counts.slots - counts.free, image);
+    free_records(dying, image);
 }
 
 // ---- the records that are written over them
 
-// Record k of the pairs, of the variable v.
-fn pair_record(v: Variable, pairs: &[u16], k: usize) -> Record
-    requires { PairRoom pairs.now k × (v.0 < 256) }
-    ensures { (meant result ≡ pair_at v.0 pairs.now k) × Fit result }
+fn record(v: Variable, children: Children) -> Record
+    requires { v.0 < 256 }
+    ensures { (meant result ≡ with_variable v.0 children) × Fit result }
 {
-    let (low, high) = pairs::get(pairs, k);
     Record::Used {
         variable: v,
-        low,
-        high,
+        low: children.low(),
+        high: children.high(),
     }
 }
 
-// Each goes to the record whose number stands at its place in the list.
-fn place_pairs(v: Variable, pairs: &[u16], numbers: &[u16], count: usize, image: &mut [u8])
-    requires { (Inside image.old numbers.now count × (2 * count ≤ length pairs.now)) × (v.0 < 256) }
-    ensures { image.new ≡ fold (placed v.0 pairs.now numbers.now) image.old count }
+// Each goes, with the variable v, to the record whose number stands at its place in the list.
+fn place_records(v: Variable, children: &[Children], numbers: &[u16], image: &mut [u8])
+    requires { (Inside image.old numbers.now × (length children.now ≤ length numbers.now)) × (v.0 < 256) }
+    ensures { image.new ≡ fold (placed v.0 children.now numbers.now) image.old (length children.now) }
 {
-    for k in 0..count {
-        pair_record(v, pairs, k).store(image, collect::entry(numbers, k));
+    for k in 0..children.len() {
+        record(v, children[k]).store(image, collect::entry(numbers, k));
     }
 }
 
 // ---- the whole image
 
 // After the reckoning of a swap that has room: what dies becomes free, new x records go to the first slots, which may be some of what died,
-// and crossing records become y records.
-pub fn fill(
-    table: &[u8],
-    pair: Pair,
-    crossing: &[u16],
-    slots: &[u16],
-    news: &[u16],
-    kept: &[u16],
-    counts: Counts,
-    image: &mut [u8],
-)
-    requires { Fillable table.now pair crossing.now slots.now news.now kept.now counts image.old }
-    ensures { Filled table.now pair slots.now counts image.new }
+// and crossing records become y records. The first slots, so many of them, were free before.
+pub fn fill(table: &[u8], pair: Pair, work: &Work, free: usize, image: &mut [u8])
+    requires { Fillable table.now pair work.now free image.old }
+    ensures { Filled table.now pair work.now.slots free image.new }
 {
-    copy_living(table, slots, counts, image);
-    place_pairs(pair.x, news, slots, counts.needed, image);
-    place_pairs(pair.y, kept, crossing, counts.crossing, image);
+    let slots = work.slots.as_slice();
+    copy_living(table, &slots[free..], image);
+    place_records(pair.x, work.news.as_slice(), slots, image);
+    place_records(
+        pair.y,
+        work.kept.as_slice(),
+        work.crossing.as_slice(),
+        image,
+    );
 }

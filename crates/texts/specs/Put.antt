@@ -73,9 +73,9 @@ module _ {f : ℕ → List ℕ} {i : ℕ} {p q : Page} (s : Turns f p i q) where
   turn_space {n} {m} l e h t =
       rw t (record { fits = omega (arith, turn_within f m i (rw e at l), s.so_far.same, s.so_far.moved, h.fits) })
 
-  pub turns_go : {r : Page} {text : List ℕ} → text ≡ f i → Put q text r → Turns f p (i + 1) r
+  pub turns_go : {r : Page} {text : List ℕ} → Put q text r → text ≡ f i → Turns f p (i + 1) r
   unfolding in_turn
-  turns_go e h = record { so_far = rw add-one (put_both s.so_far (rw e at h)) }
+  turns_go h e = record { so_far = rw add-one (put_both s.so_far (rw e at h)) }
 
   pub turns_end : {m : ℕ} → i ≡ m → Put p (in_turn f m) q
   turns_end e = rw e at s.so_far

@@ -1,16 +1,7 @@
-use borrow.Author.Rules.{rules}
 use Rattle.texts.specs.Put.{putting}
-use Rattle.program.specs.Text.{answer_text}
+use Rattle.program.specs.Text.{slice_text}
 use Rattle.program.proofs.put_no_room.Goals as goal
 
-pub put_swaps-after_swaps-requires : goal.put_swaps-after_swaps-requires
-unfolding answer_text
-put_swaps-after_swaps-requires c = search putting
-
-pub put_lack-requires : goal.put_lack-requires
-unfolding answer_text
-put_lack-requires c = search putting
-
 pub returns : goal.returns
-unfolding answer_text
+unfolding slice_text
 returns c = search putting

@@ -3,17 +3,14 @@ use Rattle.swap_reckoning.specs.Reckoned.{sorted_again}
 use Rattle.swap_preparing.proofs.Laws.{no_room, fillable, prepared}
 use Rattle.swap_preparing.proofs.fill_image.Goals as goal
 
-pub reckon-counts-requires : goal.reckon-counts-requires
-reckon-counts-requires c = search (sorted_again, rules)
-
-pub returns-then-counts : goal.returns-then-counts
-returns-then-counts c =
-    no_room c.reckon-counts.ensures.0 c.all_slots-start.ensures c.requires.0.0.1 c.reckon-counts.ensures.1 (search rules)
+pub reckon-requires : goal.reckon-requires
+reckon-requires c = sorted_again c.requires.0.0 c.add_dying.ensures
 
 pub fill-requires : goal.fill-requires
-fill-requires c =
-    fillable c.reckon-counts.ensures.0 c.all_slots-start.ensures c.requires.0.0.1 c.reckon-counts.ensures.1 c.requires.0.1.1
-    (search rules) (search rules)
+fill-requires c = fillable _ _ c.requires.0.1 c.len-free.ensures c.add_dying.ensures c.reckon.ensures.0 c.reckon.ensures.1 c.counts-counts.ensures c.requires.1.0 (search rules) c.requires.1.1
 
-pub returns : goal.returns
-returns c = prepared c.reckon-counts.ensures.0 c.all_slots-start.ensures c.requires.0.0.1 c.reckon-counts.ensures.1 c.fill.ensures
+pub returns-then-counts : goal.returns-then-counts
+returns-then-counts c = prepared _ _ c.requires.0.1 c.len-free.ensures c.add_dying.ensures c.reckon.ensures.0 c.reckon.ensures.1 c.counts-counts.ensures c.fill.ensures
+
+pub returns-else-counts : goal.returns-else-counts
+returns-else-counts c = no_room _ _ c.requires.0.1 c.len-free.ensures c.add_dying.ensures c.reckon.ensures.0 c.reckon.ensures.1 c.counts-counts.ensures (search rules)

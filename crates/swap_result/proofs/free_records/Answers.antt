@@ -4,9 +4,6 @@ use Rattle.swap_result.proofs.free_records.Goals as goal
 pub loop-k-init : goal.loop-k-init
 loop-k-init c = search storing
 
-pub entry-requires : goal.entry-requires
-entry-requires c = search storing
-
 pub store-requires : goal.store-requires
 store-requires c = search storing
 

@@ -1,7 +1,6 @@
-use Rattle.std.specs.Prelude.{[]}
-use Rattle.diagrams.specs.Layout.{records, is_free}
-use Rattle.swap_records.specs.Listed.{Listing}
+use Rattle.swap_records.specs.Listed.{Lists}
+use Rattle.diagrams.specs.Layout.{is_free}
 use Rattle.swap_records.proofs.collect.collect_free.Given as goal
 
 abbrev pub invariant-loop-i : goal.invariant-loop-i
-invariant-loop-i l = Listing l.table [] (is_free l.table) (records l.table) l.i l.list l.k
+invariant-loop-i l = Lists (is_free l.table) l.i l.list
