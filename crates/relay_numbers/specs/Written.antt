@@ -1,5 +1,5 @@
 -- An answer's numbers written to a lent list: all of them at its front, or none where it is too short.
-use Rattle.std.specs.Prelude.{ℕ, cond, List, ◌++◌, ◌≡◌, ltb, length, drop}
+use Rattle.std.specs.Prelude.{ℕ, cond, List, ◌++◌, ltb, length, drop}
 use Rattle.undo.specs.Stores.{State}
 
 pub record Written : Type 0 where

@@ -59,16 +59,27 @@ pub fn tell_swap(answer: &mut [u32], a: Result<Way, Refusal>) -> usize
 {
     match a {
         Ok(Way::Clear) => write(answer, &[0]),
-        Ok(Way::NoRoom(Lack {
-            level,
-            needed,
-            free,
-        })) => write(answer, &[NO_ROOM, level as u32, needed as u32, free as u32]),
-        Ok(Way::LogShort(Short {
-            level,
-            needed,
-            held,
-        })) => write(answer, &[LOG_SHORT, level as u32, needed as u32, held as u32]),
+        Ok(
+            Way::NoRoom(
+                Lack {
+                    level,
+                    needed,
+                    free,
+                },
+            ),
+        ) => write(answer, &[NO_ROOM, level as u32, needed as u32, free as u32]),
+        Ok(
+            Way::LogShort(
+                Short {
+                    level,
+                    needed,
+                    held,
+                },
+            ),
+        ) => write(
+            answer,
+            &[LOG_SHORT, level as u32, needed as u32, held as u32],
+        ),
         Err(refusal) => tell_refusal(answer, refusal),
     }
 }
