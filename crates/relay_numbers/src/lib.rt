@@ -11,7 +11,7 @@ ghost use Rattle.relay_numbers.specs.Fits.{limit, Fits, NumberFits};
 
 use checks::Refusal;
 use runs::Slice;
-use swap_ways::{Lack, Short, Way};
+use swap_ways::Way;
 
 // The first numbers of three answers that are no refusal, as C reads them: include/relay.h declares them.
 const NO_ROOM: u32 = 100;
@@ -59,26 +59,23 @@ pub fn tell_swap(answer: &mut [u32], a: Result<Way, Refusal>) -> usize
 {
     match a {
         Ok(Way::Clear) => write(answer, &[0]),
-        Ok(
-            Way::NoRoom(
-                Lack {
-                    level,
-                    needed,
-                    free,
-                },
-            ),
-        ) => write(answer, &[NO_ROOM, level as u32, needed as u32, free as u32]),
-        Ok(
-            Way::LogShort(
-                Short {
-                    level,
-                    needed,
-                    held,
-                },
-            ),
-        ) => write(
+        Ok(Way::NoRoom(lack)) => write(
             answer,
-            &[LOG_SHORT, level as u32, needed as u32, held as u32],
+            &[
+                NO_ROOM,
+                lack.level as u32,
+                lack.needed as u32,
+                lack.free as u32,
+            ],
+        ),
+        Ok(Way::LogShort(short)) => write(
+            answer,
+            &[
+                LOG_SHORT,
+                short.level as u32,
+                short.needed as u32,
+                short.held as u32,
+            ],
         ),
         Err(refusal) => tell_refusal(answer, refusal),
     }
