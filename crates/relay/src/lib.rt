@@ -94,7 +94,6 @@ pub extern "C" fn relay_count(
     }
 }
 
-#[tactic(auto, using(crate::proofs::Laws::swap_tells))]
 #[unsafe(no_mangle)]
 pub extern "C" fn relay_swap(
     table: &mut [u8],
@@ -114,7 +113,6 @@ pub extern "C" fn relay_swap(
     relay_numbers::tell_swap(answer, a)
 }
 
-#[tactic(auto, using(crate::proofs::Laws::run_tells))]
 #[unsafe(no_mangle)]
 pub extern "C" fn relay_run(
     table: &mut [u8],
@@ -136,7 +134,6 @@ pub extern "C" fn relay_run(
     relay_numbers::tell_run(answer, a)
 }
 
-#[tactic(auto, using(crate::proofs::Laws::recover_tells))]
 #[unsafe(no_mangle)]
 pub extern "C" fn relay_recover(
     table: &mut [u8],
