@@ -1,20 +1,18 @@
 -- Request L2: how many combinations trip, and their share, which are told of a root and don't move with the records.
 --
 -- `count_of` is the outcome that Count's contract cites; `trips` is the number of combinations under which Read's value of the root is 1.
-use Rattle.std.specs.Prelude.{ℕ, ◌^◌, Bool, false, List, ◌≡◌, Float, length}
+use Rattle.std.specs.Prelude.{ℕ, ◌^◌, Bool, false, List, ◌≡◌, Float, length, Ok, Err}
 use Rattle.std.specs.Float.Ieee.Exact.{HasValue}
 use Rattle.lists.specs.Combinations.{how_many, all_or_none}
-use Rattle.lists.specs.Count.{bit}
 use Rattle.count_shares.specs.Share.{quotient}
 use Rattle.checks.specs.Stages.{refusal, FailsFirst}
+use Rattle.checks.specs.declared.Fault.{Fault}
 use Rattle.reading.specs.Read.{read_of}
 use Rattle.reading.specs.Theorems.{GoodInputs}
-use Rattle.reading.specs.declared.ReadAnswer.TheVariants as reads
-use Rattle.counting.specs.Count.{count_stages, count_of, CountOutcome}
+use Rattle.counting.specs.Count as counts
+use Rattle.counting.specs.Count.{CountAnswer, count_stages, count_of, CountOutcome}
 use Rattle.counting.proofs.Theorems as count
 use Rattle.counting.specs.Theorems.{Counts, answers_one}
-use Rattle.counting.specs.declared.CountAnswer.{CountAnswer}
-use Rattle.counting.specs.declared.CountAnswer.TheVariants as counts
 use Rattle.undo.specs.Stores.{State}
 use Rattle.demands.specs.Exactly.{Exactly}
 use Rattle.demands.specs.Operations.{Operation, leaves_all, operations_same}
@@ -22,7 +20,7 @@ use Rattle.demands.specs.SameCount.{count_same}
 
 module _ (t r o : List ℕ) (position : ℕ) where
   -- refused with k at p exactly where check k fails first, at p
-  pub count_refused : (k p : ℕ) → Exactly (count_of t r o position ≡ counts.Refused (refusal k p)) (FailsFirst (count_stages t r o position) k p)
+  pub count_refused : (k : Fault) (p : ℕ) → Exactly (count_of t r o position ≡ Err (refusal k p)) (FailsFirst (count_stages t r o position) k p)
   count_refused k p = record { wherever = count.count_refuses t r o position k p; only = count.count_refuses_only t r o position k p }
 
   pub count_one : {a b : CountAnswer} → CountOutcome t r o position a → CountOutcome t r o position b → a ≡ b
@@ -30,10 +28,10 @@ module _ (t r o : List ℕ) (position : ℕ) where
 
   module _ (c : ℕ) (s : Float) where
     -- a count exactly for a table that can be used and a root that is there: c is `trips`, s its share of 2 ^ n
-    pub counted : Exactly (count_of t r o position ≡ counts.Counted c s) (Counts t r o position c s)
+    pub counted : Exactly (count_of t r o position ≡ counts.counted c s) (Counts t r o position c s)
     counted = record { wherever = count.counts_if t r o position; only = count.counts_only t r o position }
 
-    module _ (told : count_of t r o position ≡ counts.Counted c s) where
+    module _ (told : count_of t r o position ≡ counts.counted c s) where
       -- c is the number of combinations of n inputs under which Read answers 1
       pub read_count : c ≡ how_many (length o) (λ inputs. answers_one (read_of t r o position inputs))
       read_count = count.counts_reads t r o position (count.counts_only t r o position told)
@@ -48,7 +46,7 @@ module _ (t r o : List ℕ) (position : ℕ) where
 
       -- 0 (b false) exactly where Read answers 0 under every combination, 2 ^ n (b true) exactly where it answers 1 under every one
       pub uniform : (b : Bool) → Exactly (c ≡ all_or_none b (length o))
-          ((inputs : List ℕ) → GoodInputs o inputs → read_of t r o position inputs ≡ reads.Value (bit b))
+          ((inputs : List ℕ) → GoodInputs o inputs → read_of t r o position inputs ≡ Ok b)
       uniform b =
           let w = count.counts_only t r o position told in
           record { wherever = count.uniform_if t r o position w b; only = count.uniform_only t r o position w b }

@@ -1,7 +1,7 @@
 -- Request L6: with byte 0 of the seal at 0 a log is empty, whatever else stands in it. What Swap and Run answer, and what they do to table and order, depends
 -- on nothing of it but its length.
 use Prim.Native.Nat.{ℕ, zero, suc, ◌+◌, ◌<◌}
-use Rattle.std.specs.Prelude.{Bool, cond, List, [], ◌∷◌, ◌++◌, ◌≡◌, length, get_or}
+use Rattle.std.specs.Prelude.{Bool, cond, List, [], ◌∷◌, ◌++◌, ◌≡◌, length, get_or, Ok, Err}
 use Rattle.std.proofs.Math.Bool.{true, false}
 use Rattle.std.proofs.Common.{append_assoc, ap₂, ◌∙◌, subst}
 use Rattle.std.proofs.Math.Path.{refl, ap, sym}
@@ -16,10 +16,9 @@ use Rattle.slice_rules.specs.Slices as over
 use Rattle.slice_rules.proofs.Slices as over_laws
 use Rattle.slice_rules.specs.Slices.{Relay}
 use Rattle.check_sizes.specs.Sizes.{bad_sizes}
-use Rattle.checks.specs.Stages.{Stage, stage_at, only, refusal, verdict_from, verdict_of, clear_only}
+use Rattle.checks.specs.Stages.{Verdict, Stage, stage_at, only, refusal, verdict_from, verdict_of, clear_only}
 use Rattle.checks.specs.Check.{order_stage, table_stages}
-use Rattle.checks.specs.declared.Verdict.{Verdict}
-use Rattle.checks.specs.declared.Verdict.TheVariants as verdict
+use Rattle.checks.specs.declared.Fault.TheVariants.{BadSizes, BadOrder, NoLevel, NoPlan, BadLog}
 use Rattle.undo.specs.Stores.{in_log, State, state, puts}
 use Rattle.undo.specs.Calls.{Call, Ended, whole}
 use Rattle.undo.specs.Mending.{puts_long}
@@ -27,15 +26,14 @@ use Rattle.undo.specs.Log.{seal_at, entries_held}
 use Rattle.check_log.specs.BadLog.{bad_log_size, open_stages}
 use Rattle.check_log.proofs.Open.{empty_verdict}
 use Rattle.swap_ways.specs.Ways.{table_after, is_clear, way_of}
-use Rattle.swaps.specs.Outcome.{swap_way, swap_stages, store_stages, no_level, swap_judged, swap_call, swap_of}
+use Rattle.swaps.specs.Outcome.{SwapAnswer, swap_way, swap_stages, store_stages, no_level, swap_judged, swap_call, swap_of}
 use Rattle.swaps.specs.Entry.{AbleOf}
 use Rattle.swaps.proofs.Entry.{swap_starts, swap_clear, swap_stuck, swap_short}
 use Rattle.swap_ways.specs.declared.Way.{Way}
 use Rattle.swap_ways.specs.declared.Way.TheVariants as way
-use Rattle.swaps.specs.declared.SwapAnswer.{SwapAnswer}
 use Rattle.runs.specs.OneSwap.{plain_swap}
 use Rattle.runs.specs.Run as run
-use Rattle.runs.specs.Run.{stores_of, relay, bad_run_sizes, order_stages, run_stages, answer_of, run_judged, run_call, run_of}
+use Rattle.runs.specs.Run.{stores_of, relay, bad_run_sizes, order_stages, run_stages, told, run_judged, run_call, run_of}
 use Rattle.runs.specs.Answers.{ran_to}
 use Rattle.runs.specs.Theorems.{Good, Startable}
 use Rattle.runs.proofs.Theorems.{run_starts, run_is, good_start, relay_laws, table_after_lem, order_after}
@@ -65,7 +63,7 @@ module _ {l m : List ℕ} (e : Empty l m) where
   open_same : (N n : ℕ) (more : List Stage) → verdict_of (open_stages l N n ++ more) ≡ verdict_of (open_stages m N n ++ more)
   open_same N n more =
       empty_verdict l N n more e.first
-      ∙ ap (λ b. cond b (verdict.Refused (refusal 14 0)) (verdict_of more)) (same_bad l m e.long)
+      ∙ ap (λ b. cond b (Err (refusal BadLog 0)) (verdict_of more)) (same_bad l m e.long)
       ∙ sym (empty_verdict m N n more e.second)
 
   -- and of two rows after them
@@ -76,14 +74,14 @@ module _ {l m : List ℕ} (e : Empty l m) where
   swap_verdict : (t r o : List ℕ) (k : ℕ) → verdict_of (swap_stages t r o l k) ≡ verdict_of (swap_stages t r o m k)
   unfolding swap_stages store_stages
   swap_verdict t r o k =
-      ap (verdict_from 1 (only 0 (bad_sizes t r o)) 1)
-      (open_rows (records t) (length o) (order_stage 2 o ∷ table_stages t r o) (stage_at 12 k (no_level o k) ∷ []))
+      ap (verdict_from BadSizes (only 0 (bad_sizes t r o)) 1)
+      (open_rows (records t) (length o) (order_stage BadOrder o ∷ table_stages t r o) (stage_at NoLevel k (no_level o k) ∷ []))
 
   run_verdict : (number : ℕ) (t r o g : List ℕ) → verdict_of (run_stages plain_swap number t r o g l) ≡ verdict_of (run_stages plain_swap number t r o g m)
   unfolding run_stages run.store_stages
   run_verdict number t r o g =
-      ap (verdict_from 1 (only 0 (bad_run_sizes t r o g)) 1)
-      (open_rows (records t) (length o) (order_stages plain_swap t r o g) (stage_at 13 number (no_plan number) ∷ []))
+      ap (verdict_from BadSizes (only 0 (bad_run_sizes t r o g)) 1)
+      (open_rows (records t) (length o) (order_stages plain_swap t r o g) (stage_at NoPlan number (no_plan number) ∷ []))
 
   held_same : entries_held l ≡ entries_held m
   held_same = rw e.long
@@ -119,10 +117,10 @@ module _ {l m : List ℕ} (e : Empty l m) where
     swap_ignores = go (verdict_of (swap_stages t r o l k)) refl
       where
         go : (v : Verdict) → verdict_of (swap_stages t r o l k) ≡ v → Agree (swap_of s r k) (swap_of q r k)
-        go verdict.Clear c =
+        go (Ok _) c =
             by_way (swap_starts t r o l k (clear_only (swap_stages t r o l k) c))
             (swap_starts t r o m k (clear_only (swap_stages t r o m k) (sym (swap_verdict t r o k) ∙ c))) (swap_way s r k) refl
-        go (verdict.Refused w) c =
+        go (Err w) c =
             agree_by (ap (λ v. whole (swap_judged s r k v) s) c) (ap (λ v. whole (swap_judged q r k v) q) (sym (swap_verdict t r o k) ∙ c))
             (record { answer = refl; table = refl; order = refl })
 
@@ -226,7 +224,7 @@ module _ (number : ℕ) (r g : List ℕ) (permuted : Permutation g) where
       let (p, q) = like_leaves b x y (good_start plain_swap number x r g a) (good_start plain_swap number y r g c) k in
       agree_by (run_is plain_swap number x r g a b) (run_is plain_swap number y r g c b)
       (record {
-        answer = λ i. answer_of (q i) (left (p.order i) g) (like_judged p i);
+        answer = λ i. told (q i) (left (p.order i) g) (like_judged p i);
         table = p.table;
         order = p.order;
       })
@@ -239,12 +237,12 @@ module _ {l m : List ℕ} (e : Empty l m) (number : ℕ) (t r o g : List ℕ) (b
     where
       go : (v : Verdict) → verdict_of (run_stages plain_swap number t r o g l) ≡ v
           → Agree (run_of plain_swap number (state t o l) r g budget) (run_of plain_swap number (state t o m) r g budget)
-      go verdict.Clear c =
+      go (Ok _) c =
           let a = run_starts plain_swap (state t o l) r g number (clear_only (run_stages plain_swap number t r o g l) c) in
           let d =
           run_starts plain_swap (state t o m) r g number (clear_only (run_stages plain_swap number t r o g m) (sym (run_verdict e number t r o g) ∙ c)) in
           like_runs number r g a.ready.target budget (state t o l) (state t o m) a d (record { table = refl; order = refl; long = e.long })
-      go (verdict.Refused w) c =
+      go (Err w) c =
           agree_by (ap (λ v. whole (run_judged plain_swap (plan_of number) (state t o l) r g budget v) (state t o l)) c)
           (ap (λ v. whole (run_judged plain_swap (plan_of number) (state t o m) r g budget v) (state t o m)) (sym (run_verdict e number t r o g) ∙ c))
           (record { answer = refl; table = refl; order = refl })

@@ -1,7 +1,7 @@
 -- Demand 2: exactly Bryant's diagrams are accepted. A swap that is made gives an accepted table under the exchanged order, keeps every root's
 -- reference and, for every combination of inputs, its value, and frees exactly what nothing names any more. What Read answers is the same before and
 -- after a swap, and before and after a run.
-use Rattle.std.specs.Prelude.{ℕ, ◌+◌, ◌<◌, Bool, true, List, ◌≡◌, length}
+use Rattle.std.specs.Prelude.{ℕ, ◌+◌, ◌<◌, Bool, true, List, ◌≡◌, length, Ok}
 use Rattle.std.proofs.Common.{ap, sym, ◌∙◌}
 use Rattle.diagrams.specs.Layout.{records, root_count, root_at, variable_at, is_free}
 use Rattle.diagrams.specs.Lookup.{lookup}
@@ -10,7 +10,6 @@ use Rattle.orders.specs.Exchange.{exchange}
 use Rattle.checks.specs.Check.{used, check_of}
 use Rattle.checks.specs.Usable.{Usable}
 use Rattle.checks.proofs.Theorems as check
-use Rattle.checks.specs.declared.CheckAnswer.TheVariants as checked
 use Rattle.check_names.specs.Names.{NamedByRoot, NamedByRecord}
 use Rattle.lists.specs.Says.{Says}
 use Rattle.reading.specs.Read.{read_of}
@@ -19,10 +18,9 @@ use Rattle.swap_rules.specs.Theorem.{Cofactors}
 use Rattle.swap_preparing.specs.Table.{needed_in, dying_in}
 use Rattle.undo.specs.Stores.{State}
 use Rattle.undo.specs.Calls.{Ended}
-use Rattle.swaps.specs.Outcome.{swap_of}
+use Rattle.swaps.specs.Outcome.{SwapAnswer, swap_of}
 use Rattle.swaps.proofs.Entry as swap
-use Rattle.swaps.specs.declared.SwapAnswer.{SwapAnswer}
-use Rattle.swaps.specs.declared.SwapAnswer.TheVariants.{Made}
+use Rattle.swap_ways.specs.declared.Way.TheVariants as way
 use Rattle.runs.specs.OneSwap.{plain_swap}
 use Rattle.runs.specs.Run.{run_of}
 use Rattle.demands.specs.Exactly.{Exactly}
@@ -32,8 +30,8 @@ use Rattle.demands.specs.SameRead.{read_same}
 module _ (t r o : List ℕ) where
   -- accepted, with c used records, exactly for a table that can be used and has so many. `Usable`: right sizes, an order that is a permutation, zeros
   -- where nothing is told, and a diagram in Bryant's sense
-  pub accepted : (c : ℕ) → Exactly (check_of t r o ≡ checked.Accepted c) (Usable t r o × (c ≡ used t))
-  accepted c = record { wherever = λ w. check.accepts t r o w.0 ∙ ap checked.Accepted (sym w.1); only = check.accepts_only t r o c }
+  pub accepted : (c : ℕ) → Exactly (check_of t r o ≡ Ok c) (Usable t r o × (c ≡ used t))
+  accepted c = record { wherever = λ w. check.accepts t r o w.0 ∙ ap Ok (sym w.1); only = check.accepts_only t r o c }
 
 -- ---- a swap that is made
 
@@ -44,7 +42,7 @@ module _ (s : State) (r : List ℕ) where
   abbrev o : List ℕ
   o = s.order
 
-  module _ (k : ℕ) (made : (swap_of s r k).answer ≡ Made) where
+  module _ (k : ℕ) (made : (swap_of s r k).answer ≡ Ok way.Clear) where
     abbrev t' : List ℕ
     t' = (swap_of s r k).state.table
 
@@ -62,7 +60,7 @@ module _ (s : State) (r : List ℕ) where
     order_exchanged = ap (λ (w : Ended SwapAnswer). w.state.order) (swap.made_is s r k made)
 
     -- the table is accepted again, under the exchanged order
-    pub accepted_again : check_of t' r o' ≡ checked.Accepted (used t')
+    pub accepted_again : check_of t' r o' ≡ Ok (used t')
     accepted_again = check.accepts t' r o' (swap.made_usable s r k made)
 
     -- every root (the roots are lent for reading only) keeps its value for every combination of inputs

@@ -1,5 +1,5 @@
 -- What a swap or a slice leaves: the table and the order as they were, or a table that can be used again, with the same values of its roots.
-use Rattle.std.specs.Prelude.{ℕ, ◌<◌, Bool, List, ◌≡◌, refl, length}
+use Rattle.std.specs.Prelude.{ℕ, ◌<◌, Bool, List, ◌≡◌, refl, length, Ok, Err}
 use Rattle.std.proofs.Common.{ap, ap₂, ◌∙◌}
 use Rattle.lists.specs.Apart.{apart}
 use Rattle.diagrams.specs.Layout.{root_count, root_at}
@@ -10,15 +10,13 @@ use Rattle.checks.specs.Usable.{Usable}
 use Rattle.checks.specs.declared.Refusal.{Refusal}
 use Rattle.undo.specs.Stores.{State}
 use Rattle.undo.specs.Calls.{Ended}
-use Rattle.swaps.specs.Outcome.{swap_of}
+use Rattle.swap_ways.specs.declared.Way.TheVariants as way
+use Rattle.swaps.specs.Outcome.{SwapAnswer, swap_of}
 use Rattle.swaps.proofs.Entry.{made_only, made_is, made_usable, made_root_value, unmade_state}
-use Rattle.swaps.specs.declared.SwapAnswer.{SwapAnswer}
-use Rattle.swaps.specs.declared.SwapAnswer.TheVariants as swaps
 use Rattle.runs.specs.OneSwap.{plain_swap}
-use Rattle.runs.specs.Run.{run_of}
+use Rattle.runs.specs.Run.{RunAnswer, run_of}
 use Rattle.runs.proofs.Theorems.{run_startable, run_usable, run_long, run_root_value, refused_keeps}
-use Rattle.runs.specs.declared.RunAnswer.{RunAnswer}
-use Rattle.runs.specs.declared.RunAnswer.TheVariants as runs
+use Rattle.runs.specs.declared.Slice.TheVariants as slice
 
 -- two tables that can be used, with the same roots, orders of as many variables, and the same value of every root
 pub record Alike (r t o t' o' : List ℕ) : Type 0 where
@@ -46,19 +44,19 @@ still : {r : List ℕ} {s s' : State} → s' ≡ s → MovedTo r s s'
 still e = unchanged (ap (λ (z : State). z.table) e) (ap (λ (z : State). z.order) e)
 
 module _ (s : State) (r : List ℕ) (k : ℕ) where
-  swap_kept : ((swap_of s r k).answer ≡ swaps.Made → ⊥) → MovedTo r s (swap_of s r k).state
+  swap_kept : ((swap_of s r k).answer ≡ Ok way.Clear → ⊥) → MovedTo r s (swap_of s r k).state
   swap_kept n = still (unmade_state s r k n)
 
   swap_by : (a : SwapAnswer) → (swap_of s r k).answer ≡ a → MovedTo r s (swap_of s r k).state
-  swap_by swaps.Made e = alike (record {
+  swap_by (Ok way.Clear) e = alike (record {
     before = (made_only s r k e).0.usable;
     after = made_usable s r k e;
     long = ap (λ (w : Ended SwapAnswer). length w.state.order) (made_is s r k e) ∙ length_exchange s.order k;
     same = made_root_value s r k e;
   })
-  swap_by (swaps.NoRoom l) e = swap_kept (λ m. apart (cc))
-  swap_by (swaps.LogShort l) e = swap_kept (λ m. apart (cc))
-  swap_by (swaps.Refused f) e = swap_kept (λ m. apart (cc))
+  swap_by (Ok (way.NoRoom l)) e = swap_kept (λ m. apart (cc))
+  swap_by (Ok (way.LogShort l)) e = swap_kept (λ m. apart (cc))
+  swap_by (Err f) e = swap_kept (λ m. apart (cc))
 
   -- any swap of any bytes
   pub swap_moved : MovedTo r s (swap_of s r k).state
@@ -68,7 +66,7 @@ module _ (plan : ℕ) (s : State) (r g : List ℕ) (budget : ℕ) where
   abbrev ran : Ended RunAnswer
   ran = run_of plain_swap plan s r g budget
 
-  run_started : ((f : Refusal) → ran.answer ≡ runs.Refused f → ⊥) → MovedTo r s ran.state
+  run_started : ((f : Refusal) → ran.answer ≡ Err f → ⊥) → MovedTo r s ran.state
   run_started n =
       let starts = run_startable plain_swap plan s r g budget n in
       alike (record {
@@ -79,11 +77,11 @@ module _ (plan : ℕ) (s : State) (r g : List ℕ) (budget : ℕ) where
       })
 
   run_by : (a : RunAnswer) → ran.answer ≡ a → MovedTo r s ran.state
-  run_by (runs.Refused f) e = still (refused_keeps plain_swap plan s r g budget f e)
-  run_by (runs.Done m l) e = run_started (λ f q. apart (cc))
-  run_by (runs.NoRoom m l k) e = run_started (λ f q. apart (cc))
-  run_by (runs.LogShort m l k) e = run_started (λ f q. apart (cc))
-  run_by (runs.Paused m l) e = run_started (λ f q. apart (cc))
+  run_by (Err f) e = still (refused_keeps plain_swap plan s r g budget f e)
+  run_by (Ok (slice.Done m l)) e = run_started (λ f q. apart (cc))
+  run_by (Ok (slice.NoRoom m l k)) e = run_started (λ f q. apart (cc))
+  run_by (Ok (slice.LogShort m l k)) e = run_started (λ f q. apart (cc))
+  run_by (Ok (slice.Paused m l)) e = run_started (λ f q. apart (cc))
 
   -- any slice of any bytes
   pub run_moved : MovedTo r s ran.state

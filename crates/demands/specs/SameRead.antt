@@ -1,5 +1,5 @@
 -- What Read answers is the same of alike tables.
-use Rattle.std.specs.Prelude.{ℕ, ◌≤◌, ◌<◌, true, List, [], ◌∷◌, ◌≡◌, refl, length}
+use Rattle.std.specs.Prelude.{ℕ, ◌≤◌, ◌<◌, List, [], ◌∷◌, ◌≡◌, refl, length, Err}
 use Rattle.std.proofs.Math.Path.{ap}
 use Rattle.std.proofs.Common.{sym, ◌∙◌, le-leb}
 use Rattle.lists.specs.Says.{either_side}
@@ -10,13 +10,13 @@ use Rattle.checks.specs.Stages.{Stage, stage_at, refusal, verdict_of, row_passes
 use Rattle.checks.specs.Check.{check_stages}
 use Rattle.checks.specs.Usable.{Usable}
 use Rattle.checks.proofs.Usable.{usable_clear}
-use Rattle.checks.specs.declared.Verdict.TheVariants as verdict
+use Rattle.checks.specs.declared.Fault.TheVariants.{NoRoot, BadInputs}
 use Rattle.reading.specs.Read.{input_of, no_root, bad_inputs, read_stages, root_value, read_after, read_of}
 use Rattle.demands.specs.Moved.{Alike}
 
 -- Read's own checks, after those of the table
 abbrev own_stages : List ℕ → List ℕ → ℕ → List ℕ → List Stage
-own_stages r o position inputs = stage_at 10 position (no_root r position) ∷ stage_at 11 0 (bad_inputs o inputs) ∷ []
+own_stages r o position inputs = stage_at NoRoot position (no_root r position) ∷ stage_at BadInputs 0 (bad_inputs o inputs) ∷ []
 
 -- of a table that can be used only these are left
 read_usable : (t r o : List ℕ) (position : ℕ) (inputs : List ℕ) → Usable t r o
@@ -34,8 +34,8 @@ own_same r o o' position inputs e = rw e
 
 -- where there is no such root the value doesn't matter
 no_root_refused : (r o : List ℕ) (position : ℕ) (inputs : List ℕ) → root_count r ≤ position
-    → verdict_of (own_stages r o position inputs) ≡ verdict.Refused (refusal 10 position)
-no_root_refused r o position inputs h = sym (place_refuses 10 position (no_root r position) true _ (sym (le-leb (root_count r) position h)) refl)
+    → verdict_of (own_stages r o position inputs) ≡ Err (refusal NoRoot position)
+no_root_refused r o position inputs h = sym (place_refuses NoRoot position (no_root r position) _ (sym (le-leb (root_count r) position h)) refl refl)
 
 module _ {r t o t' o' : List ℕ} (a : Alike r t o t' o') where
   pub root_value_same : (position : ℕ) (inputs : List ℕ) → position < root_count r → root_value t' r o' position inputs ≡ root_value t r o position inputs

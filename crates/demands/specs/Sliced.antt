@@ -3,7 +3,7 @@
 -- So a run that leaves the buffers alone is refused by `orders_followed` and `left_falls`: after m swaps the order is the plan's m-th, and left is
 -- smaller by m. One that does the whole job at once is refused by `within_budget`: no more swaps than the budget, and the order is the plan's
 -- after just so many. One that invents its numbers is refused by `orders_followed`, `left_told` and demand 1's `run_no_room_only`.
-use Rattle.std.specs.Prelude.{ℕ, ◌+◌, ◌≤◌, ◌≡◌}
+use Rattle.std.specs.Prelude.{ℕ, ◌+◌, ◌≤◌, ◌≡◌, Ok}
 use mathlib.Core.List.{List, foldr}
 use Rattle.std.proofs.Common.{ap}
 use Rattle.plans.specs.Inversions.{left}
@@ -12,13 +12,12 @@ use Rattle.plans.specs.Numbered.{plan_of}
 use Rattle.undo.specs.Stores.{State}
 use Rattle.undo.specs.Calls.{Ended}
 use Rattle.runs.specs.OneSwap.{plain_swap}
-use Rattle.runs.specs.Run.{run_of}
+use Rattle.runs.specs.Run.{RunAnswer, run_of}
 use Rattle.runs.specs.Answers.{swaps_in, left_in, with_more}
 use Rattle.runs.proofs.Adding.{runs_of, run_add, run_slices}
 use Rattle.runs.proofs.Theorems as run
 use Rattle.runs.specs.Theorems.{Startable}
-use Rattle.runs.specs.declared.RunAnswer.{RunAnswer}
-use Rattle.runs.specs.declared.RunAnswer.TheVariants.{Done, Paused}
+use Rattle.runs.specs.declared.Slice.TheVariants.{Done, Paused}
 
 -- all slices use the plan with this number
 module _ (plan : ℕ) (s : State) (r g : List ℕ) where
@@ -69,16 +68,16 @@ module _ (plan : ℕ) (s : State) (r g : List ℕ) where
     left_falls = run.run_fall plain_swap plan s r g starts b
 
     -- done exactly where the order left is the target; as many swaps were then made as there were inversions, by any plan
-    pub done_if : (ran b).state.order ≡ g → (ran b).answer ≡ Done (swaps_in (ran b).answer) 0
+    pub done_if : (ran b).state.order ≡ g → (ran b).answer ≡ Ok (Done (swaps_in (ran b).answer) 0)
     done_if = run.run_arrives plain_swap plan s r g starts b
 
-    pub done_only : (m l : ℕ) → (ran b).answer ≡ Done m l → ((ran b).state.order ≡ g) × (m ≡ left s.order g) × (l ≡ 0)
+    pub done_only : (m l : ℕ) → (ran b).answer ≡ Ok (Done m l) → ((ran b).state.order ≡ g) × (m ≡ left s.order g) × (l ≡ 0)
     done_only = run.run_done plain_swap plan s r g starts b
 
     -- a paused run has made exactly its budget of swaps
-    pub paused_spent : (m l : ℕ) → (ran b).answer ≡ Paused m l → m ≡ b
+    pub paused_spent : (m l : ℕ) → (ran b).answer ≡ Ok (Paused m l) → m ≡ b
     paused_spent m l e = (run.run_paused plain_swap plan s r g starts b m l e).2
 
     -- with a budget of at least left it is never paused
-    pub enough : (m l : ℕ) → left s.order g ≤ b → (ran b).answer ≡ Paused m l → ⊥
+    pub enough : (m l : ℕ) → left s.order g ≤ b → (ran b).answer ≡ Ok (Paused m l) → ⊥
     enough = run.run_enough plain_swap plan s r g starts b

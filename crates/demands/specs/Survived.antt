@@ -4,7 +4,7 @@
 --
 -- `swap_cut` and `run_cut` are what the code leaves that is run with fuel for f stores, and `recover_cut` is the same of Recover; `recovers` makes one recovery
 -- after the other, each cut after so many stores.
-use Rattle.std.specs.Prelude.{ℕ, ◌+◌, ◌-◌, ◌≤◌, ◌<◌, false, List, [], ◌∷◌, ◌++◌, ◌≡◌, refl, length, take}
+use Rattle.std.specs.Prelude.{ℕ, ◌+◌, ◌-◌, ◌≤◌, ◌<◌, false, List, [], ◌∷◌, ◌++◌, ◌≡◌, refl, length, take, Ok}
 use Rattle.std.proofs.Common.{append_assoc, ap, ◌∙◌, subst, arith}
 use Rattle.std.proofs.Math.Path.{sym}
 use Rattle.orders.specs.Exchange.{exchange}
@@ -20,27 +20,23 @@ use Rattle.undo.specs.Log.{is_sealed, counted, logging, sealing, putting, cleari
 use Rattle.undo.specs.Survives.{Ready, Quiet}
 use Rattle.undo.specs.Mending.{puts_long}
 use Rattle.check_log.specs.Accepted.{same_size}
-use Rattle.recovery.specs.Recover.{recover_call, recover_of, recover_cut}
+use Rattle.recovery.specs.Recover.{RecoverAnswer, recover_call, recover_of, recover_cut}
 use Rattle.recovery.specs.Theorems as recover
 use Rattle.recovery.specs.Again.{Accepting, recovers}
 use Rattle.recovery.proofs.Again.{recover_answers, quiet_accepts, quiet_stays, cut_accepts, cut_before, cut_after}
-use Rattle.recovery.specs.declared.RecoverAnswer.{RecoverAnswer}
-use Rattle.recovery.specs.declared.RecoverAnswer.TheVariants.{PutBack}
 use Rattle.swap_ways.specs.Ways.{table_after, way_clear}
-use Rattle.swaps.specs.Outcome.{swap_after, swap_call, swap_of, swap_cut}
+use Rattle.swaps.specs.Outcome.{SwapAnswer, swap_after, swap_call, swap_of, swap_cut}
 use Rattle.swaps.specs.Entry.{AbleOf}
 use Rattle.swaps.proofs.Entry.{made_only, made_is, call_is, swap_ready}
 use Rattle.swap_ways.specs.declared.Way.{Way}
-use Rattle.swaps.specs.declared.SwapAnswer.{SwapAnswer}
-use Rattle.swaps.specs.declared.SwapAnswer.TheVariants.{Made}
+use Rattle.swap_ways.specs.declared.Way.TheVariants as way
 use Rattle.runs.specs.OneSwap.{plain_swap}
-use Rattle.runs.specs.Run.{relay, run_stores, run_cut, run_of}
+use Rattle.runs.specs.Run.{RunAnswer, relay, run_stores, run_cut, run_of}
 use Rattle.runs.specs.Answers.{swaps_in, with_more, as_one}
 use Rattle.runs.proofs.Adding.{run_add}
 use Rattle.runs.proofs.Stores.{CutAt, between, within, cut_at}
 use Rattle.runs.proofs.Theorems as run
 use Rattle.runs.specs.Theorems.{Good, Startable}
-use Rattle.runs.specs.declared.RunAnswer.{RunAnswer}
 use Rattle.demands.specs.EmptyLog.{Agree, Like, like_runs}
 
 -- check 1 of a recovery, which has no roots
@@ -58,7 +54,7 @@ recover_sizes t r o e =
 
 -- ---- a swap that is made
 
-module _ (s : State) (r : List ℕ) (k : ℕ) (made : (swap_of s r k).answer ≡ Made) where
+module _ (s : State) (r : List ℕ) (k : ℕ) (made : (swap_of s r k).answer ≡ Ok way.Clear) where
   able : AbleOf s r k
   able = (made_only s r k made).0
 
@@ -93,7 +89,7 @@ module _ (s : State) (r : List ℕ) (k : ℕ) (made : (swap_of s r k).answer ≡
     back = recover_of (recovers fs (swap_cut f s r k))
 
     -- no recovery is refused on the way
-    pub cut_answered : back.answer ≡ PutBack (counted (recovers fs (swap_cut f s r k)).log)
+    pub cut_answered : back.answer ≡ Ok (counted (recovers fs (swap_cut f s r k)).log)
     cut_answered = rw (cut_is f) (recover_answers (undo.swap_cut f s after k) (cut_accepts s sizes after k ready able.log_open.sized f) fs)
 
     -- cut before the clearing
@@ -153,7 +149,7 @@ module _ (number : ℕ) (s : State) (r g : List ℕ) (starts : Startable plain_s
       pub swaps : ℕ
       pub few : swaps ≤ b
       pub all_made : swaps_in (ran swaps).answer ≡ swaps
-      pub answered : resumed.answer ≡ PutBack (counted (recovers fs stopped).log)
+      pub answered : resumed.answer ≡ Ok (counted (recovers fs stopped).log)
       pub table : resumed.state.table ≡ (ran swaps).state.table
       pub order : resumed.state.order ≡ (ran swaps).state.order
       pub goes_on : Agree (as_one (ran swaps) (run_of plain_swap number resumed.state r g (b - swaps))) (ran b)

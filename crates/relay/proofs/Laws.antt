@@ -2,69 +2,60 @@
 use Prim.Native.Nat.{ℕ, ◌≤◌, ◌<◌}
 use mathlib.Core.Bool.{Bool, true, false, ◌||◌}
 use mathlib.Core.List.{List, [], ◌∷◌}
-use mathlib.Core.Path.{◌≡◌, ap, sym, ◌∙◌, subst}
+use mathlib.Core.Path.{◌≡◌, refl, ap, sym, ◌∙◌, subst}
 use native.Mathlib.Omega.{arith}
 use borrow.Author.Rules.{rules}
-use borrow.Author.Tests.{lt-ltb, le-ltb, ltb-false}
+use borrow.Author.Tests.{lt-ltb, le-ltb}
 use lib.Dec.{ltb}
 use lib.Ieee.{Float}
 use lib.ListN.{length, set}
-use Rattle.lists.specs.Truth.{or_neither}
+use Rattle.lists.specs.Truth.{or_true}
 use Rattle.parts.specs.declared.Part.{Part}
-use Rattle.checks.specs.Check.{CheckOutcome}
+use Rattle.std.specs.Prelude.{Result, Ok, Err}
+use Rattle.checks.specs.Check as check
+use Rattle.checks.specs.Check.{CheckAnswer, CheckOutcome}
+use Rattle.checks.specs.Stages.{number}
 use Rattle.checks.proofs.Theorems.{used_small, check_place_small}
 use Rattle.checks.specs.declared.Refusal.{Refusal}
-use Rattle.checks.specs.declared.CheckAnswer.{CheckAnswer}
-use Rattle.checks.specs.declared.CheckAnswer.TheVariants as check
-use Rattle.reading.specs.Read.{ReadOutcome}
+use Rattle.reading.specs.Read as reading
+use Rattle.reading.specs.Read.{ReadAnswer, ReadOutcome}
 use Rattle.showing.specs.Show.{part_of}
 use Rattle.showing.proofs.Parts.{part_inside, part_small}
 use Rattle.reading.proofs.Theorems.{read_place_small}
 use Rattle.labels.specs.Label.{label_of, part_in}
 use Rattle.labels.proofs.Labelled.{place_inside, place_small}
 use Rattle.labels.specs.declared.Place.{Place}
-use Rattle.reading.specs.declared.ReadAnswer.{ReadAnswer}
-use Rattle.reading.specs.declared.ReadAnswer.TheVariants as reading
-use Rattle.counting.specs.Count.{CountOutcome}
+use Rattle.count_levels.specs.declared.Trips.{Trips}
+use Rattle.counting.specs.Count.{CountAnswer, CountOutcome}
 use Rattle.counting.proofs.Theorems.{count_place_small}
-use Rattle.counting.specs.declared.CountAnswer.{CountAnswer}
-use Rattle.counting.specs.declared.CountAnswer.TheVariants as counting
 use Rattle.undo.specs.Stores.{State}
 use Rattle.undo.specs.Calls.{Ended}
 use Rattle.recovery.specs.Recover as recover
-use Rattle.recovery.specs.Recover.{RecoverOutcome}
-use Rattle.recovery.specs.declared.RecoverAnswer.{RecoverAnswer}
+use Rattle.recovery.specs.Recover.{RecoverAnswer, RecoverOutcome}
 use Rattle.swaps.specs.Outcome as swap
-use Rattle.swaps.specs.Outcome.{SwapOutcome}
-use Rattle.swaps.specs.declared.SwapAnswer.{SwapAnswer}
+use Rattle.swaps.specs.Outcome.{SwapAnswer, SwapOutcome}
 use Rattle.runs.specs.OneSwap.{plain_swap}
 use Rattle.runs.specs.Run as run
-use Rattle.runs.specs.Run.{RunOutcome}
-use Rattle.runs.specs.declared.RunAnswer.{RunAnswer}
-use Rattle.relay_numbers.specs.Written.{Written, wrote, written, told, tells_it}
+use Rattle.runs.specs.Run.{RunAnswer, RunOutcome}
+use Rattle.relay_numbers.specs.Written.{Written, wrote, written, told}
 use Rattle.relay_parts.specs.Small.{Small, small}
 use Rattle.relay.specs.Told.{told_count, told_swap, told_run, told_recover, CountTold, SwapTold, RunTold, RecoverTold}
-use Rattle.relay_numbers.specs.Fits.{limit, Fits, swap_fits, run_fits, recover_fits}
-
--- ---- what a call tells: the numbers of its answer are written, also of an answer b that was taken apart
-
-pub tells : {A : Type 0} (numbers : A → List ℕ) (list : List ℕ) {w : Written} {a b c : A} → w ≡ written list (numbers a) → b ≡ c → b ≡ a
-    → w ≡ written list (numbers c)
-tells numbers list e p q = tells_it numbers list e (sym q ∙ p)
+use Rattle.relay_numbers.specs.Fits.{limit, Fits, NumberFits, swap_fits, run_fits, recover_fits}
 
 -- ---- the numbers of Check, Read and Show
 
 module _ (t r o : List ℕ) where
-  pub used_fits : {a : CheckAnswer} (n : ℕ) → CheckOutcome t r o a → a ≡ check.Accepted n → n < limit
-  used_fits n p q = omega (arith, used_small t r o n (sym p ∙ q))
-
-  pub check_place_fits : {a : CheckAnswer} (f : Refusal) → CheckOutcome t r o a → a ≡ check.Refused f → f.place < limit
-  check_place_fits f p q = check_place_small t r o limit f.number f.place (omega arith) (sym p ∙ q)
+  pub check_fits : {a : CheckAnswer} → CheckOutcome t r o a → NumberFits a
+  check_fits {a} p = go a p
+    where
+      go : (b : CheckAnswer) → CheckOutcome t r o b → NumberFits b
+      go (Ok n) q = omega (arith, used_small t r o n (sym q))
+      go (Err w) q = check_place_small t r o limit w.fault w.place (omega arith) (sym q)
 
   module _ (position : ℕ) where
-    pub read_place_fits : (inputs : List ℕ) {a : ReadAnswer} (f : Refusal) → ReadOutcome t r o position inputs a → a ≡ reading.Refused f → position < limit
+    pub read_place_fits : (inputs : List ℕ) {a : ReadAnswer} (f : Refusal) → ReadOutcome t r o position inputs a → a ≡ Err f → position < limit
         → f.place < limit
-    read_place_fits inputs f p q l = read_place_small t r o position inputs limit f.number f.place (omega arith) l (sym p ∙ q)
+    read_place_fits inputs f p q l = read_place_small t r o position inputs limit f.fault f.place (omega arith) l (sym p ∙ q)
 
     pub part_fits : {p : Part} → p ≡ part_of t r o position → Small p
     part_fits is = rw is (small (part_inside t r o position) (part_small t r o position) (omega arith))
@@ -77,38 +68,41 @@ place_fits s f v is = rw is (small (place_inside s f v) (place_small s f v) (ome
 -- ---- a count
 
 module _ (t r o : List ℕ) (position : ℕ) where
-  pub count_place_fits : {a : CountAnswer} (f : Refusal) → CountOutcome t r o position a → a ≡ counting.Refused f → position < limit → f.place < limit
-  count_place_fits f p q l = count_place_small t r o position limit f.number f.place (omega arith) l (sym p ∙ q)
+  pub count_place_fits : {a : CountAnswer} (f : Refusal) → CountOutcome t r o position a → a ≡ Err f → position < limit → f.place < limit
+  count_place_fits f p q l = count_place_small t r o position limit f.fault f.place (omega arith) l (sym p ∙ q)
 
   module _ (list counts : List ℕ) (shares : List Float) where
     abbrev short : Bool
     short = (ltb (length list) 2 || ltb (length counts) 1) || ltb (length shares) 1
 
-    pub count_nothing : short ≡ true → CountTold t r o position counts shares list (wrote 0 list) counts shares
+    nothing : short ≡ true → CountTold t r o position counts shares list (wrote 0 list) counts shares
     unfolding told_count
-    count_nothing h = rw h
+    nothing h = rw h
+
+    pub short_list : length list < 2 → CountTold t r o position counts shares list (wrote 0 list) counts shares
+    short_list h = nothing (rw (lt-ltb (length list) 2 h))
+
+    pub no_counts : length counts ≡ 0 → CountTold t r o position counts shares list (wrote 0 list) counts shares
+    no_counts h = nothing (rw (lt-ltb (length counts) 1 (omega arith), ← or_true (ltb (length list) 2)))
+
+    pub no_shares : length shares ≡ 0 → CountTold t r o position counts shares list (wrote 0 list) counts shares
+    no_shares h = nothing (rw (lt-ltb (length shares) 1 (omega arith), ← or_true (ltb (length list) 2 || ltb (length counts) 1)))
 
     -- else each of the three has room
-    pub count_room : short ≡ false → 0 < length counts
-    count_room e =
-        let (lists, _) = or_neither (ltb (length list) 2 || ltb (length counts) 1) (ltb (length shares) 1) e in
-        ltb-false (length counts) 1 (or_neither (ltb (length list) 2) (ltb (length counts) 1) lists).1
-
-    pub share_room : short ≡ false → 0 < length shares
-    share_room e = ltb-false (length shares) 1 (or_neither (ltb (length list) 2 || ltb (length counts) 1) (ltb (length shares) 1) e).1
-
-    module _ {a : CountAnswer} (outcome : CountOutcome t r o position a) (long : short ≡ false) {w : Written} where
-      pub count_told : (c : ℕ) (s : Float) → a ≡ counting.Counted c s → w ≡ written list (0 ∷ [])
-          → CountTold t r o position counts shares list w (set counts 0 c) (set shares 0 s)
+    module _ {a : CountAnswer} (outcome : CountOutcome t r o position a) {w : Written} where
+      pub count_told : (trips : Trips) → a ≡ Ok trips → w ≡ written list (0 ∷ []) → 2 ≤ length list → 0 < length counts → 0 < length shares
+          → CountTold t r o position counts shares list w (set counts 0 trips.count) (set shares 0 trips.share)
       unfolding told_count
-      count_told c s e p = rw (long, ← outcome, e, p)
+      count_told trips e p l c s =
+          rw (le-ltb (length list) 2 l, le-ltb (length counts) 1 c, le-ltb (length shares) 1 s, ← outcome, e, p)
 
-      pub count_refused : (f : Refusal) → a ≡ counting.Refused f → w ≡ written list (f.number ∷ f.place ∷ [])
-          → CountTold t r o position counts shares list w counts shares
+      pub count_refused : (f : Refusal) → a ≡ Err f → w ≡ written list (number f.fault ∷ f.place ∷ []) → 2 ≤ length list → 0 < length counts
+          → 0 < length shares → CountTold t r o position counts shares list w counts shares
       unfolding told_count
-      count_refused f e p = rw (long, ← outcome, e, p)
+      count_refused f e p l c s =
+          rw (le-ltb (length list) 2 l, le-ltb (length counts) 1 c, le-ltb (length shares) 1 s, ← outcome, e, p)
 
-pub ruleset counted = (count_place_fits, count_nothing, count_room, share_room, count_told, count_refused, rules)
+pub ruleset count_tells = (count_place_fits, short_list, no_counts, no_shares, count_told, count_refused, rules)
 
 -- ---- a call that may change a table, an order and a log
 
@@ -140,6 +134,8 @@ module _ (list : List ℕ) (s : State) (r : List ℕ) (k : ℕ) where
     pub swap_told_fits : k < limit → Fits (swap.numbers a)
     swap_told_fits h = subst Fits (ap (λ (e : Ended SwapAnswer). swap.numbers e.answer) (sym outcome)) (swap_fits s r k h)
 
+pub ruleset swap_tells = (swap_nothing, swap_told_fits, swap_told, rules)
+
 module _ (list : List ℕ) (s : State) (r g : List ℕ) (plan budget : ℕ) where
   pub run_nothing : length list < 6 → RunTold s r g plan budget list (wrote 0 list) s
   unfolding told_run
@@ -153,15 +149,24 @@ module _ (list : List ℕ) (s : State) (r g : List ℕ) (plan budget : ℕ) wher
     pub run_told_fits : plan < limit → budget < limit → Fits (run.numbers a)
     run_told_fits p b = subst Fits (ap (λ (e : Ended RunAnswer). run.numbers e.answer) (sym outcome)) (run_fits s r g plan budget p b)
 
+pub ruleset run_tells = (run_nothing, run_told_fits, run_told, rules)
+
+-- what Recover answers is told by the same numbers as what Check does
+same_numbers : (a : Result ℕ Refusal) → check.numbers a ≡ recover.numbers a
+same_numbers (Ok n) = refl
+same_numbers (Err w) = refl
+
 module _ (list : List ℕ) (s : State) where
   pub recover_nothing : length list < 2 → RecoverTold s list (wrote 0 list) s
   unfolding told_recover
   recover_nothing h = told_nothing 2 list s _ _ h
 
   module _ {a : RecoverAnswer} {s' : State} (outcome : RecoverOutcome s a s') where
-    pub recover_told : {w : Written} → w ≡ written list (recover.numbers a) → 2 ≤ length list → RecoverTold s list w s'
+    pub recover_told : {w : Written} → w ≡ written list (check.numbers a) → 2 ≤ length list → RecoverTold s list w s'
     unfolding told_recover
-    recover_told p h = told_all 2 list recover.numbers s outcome p h
+    recover_told p h = told_all 2 list recover.numbers s outcome (p ∙ ap (written list) (same_numbers a)) h
 
-    pub recover_told_fits : Fits (recover.numbers a)
-    recover_told_fits = subst Fits (ap (λ (e : Ended RecoverAnswer). recover.numbers e.answer) (sym outcome)) (recover_fits s)
+    pub recover_told_fits : NumberFits a
+    recover_told_fits = subst NumberFits (ap (λ (e : Ended RecoverAnswer). e.answer) (sym outcome)) (recover_fits s)
+
+pub ruleset recover_tells = (recover_nothing, recover_told_fits, recover_told, rules)

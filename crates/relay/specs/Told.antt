@@ -1,14 +1,13 @@
 -- The outcome of each call: what it writes to the lent list and returns, and what it leaves in the buffers that it may change.
 -- docs/RULES.md, 6.
-use Rattle.std.specs.Prelude.{ℕ, cond, ◌||◌, List, ◌≡◌, ltb, Float, length, set}
+use Rattle.std.specs.Prelude.{ℕ, cond, ◌||◌, List, ◌≡◌, ltb, Float, length, set, Ok, Err}
 use Rattle.checks.specs.Check as check
 use Rattle.reading.specs.Read as read
 use Rattle.parts.specs.Part as part
 use Rattle.showing.specs.Show as show
 use Rattle.labels.specs.Label as label
 use Rattle.counting.specs.Count as count
-use Rattle.counting.specs.declared.CountAnswer.{CountAnswer}
-use Rattle.counting.specs.declared.CountAnswer.TheVariants as counted
+use Rattle.counting.specs.Count.{CountAnswer}
 use Rattle.undo.specs.Stores.{State}
 use Rattle.recovery.specs.Recover as recover
 use Rattle.swaps.specs.Outcome as swap
@@ -39,12 +38,12 @@ pub record ToldCount : Type 0 where
 
 -- a count in the first of its places, its share likewise; a refusal leaves them as they are
 abbrev pub place_count : CountAnswer → List ℕ → List ℕ
-place_count (counted.Counted c s) counts = set counts 0 c
-place_count (counted.Refused w) counts = counts
+place_count (Ok trips) counts = set counts 0 trips.count
+place_count (Err w) counts = counts
 
 abbrev pub place_share : CountAnswer → List Float → List Float
-place_share (counted.Counted c s) shares = set shares 0 s
-place_share (counted.Refused w) shares = shares
+place_share (Ok trips) shares = set shares 0 trips.share
+place_share (Err w) shares = shares
 
 -- nothing where there is no place for the longest answer, which has 2 numbers, for a count or for a share
 unfoldable pub told_count : List ℕ → List ℕ → List Float → CountAnswer → ToldCount

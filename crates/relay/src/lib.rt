@@ -5,24 +5,17 @@ ghost use Rattle.undo.specs.Stores.{state};
 ghost use Rattle.relay_numbers.specs.Written.{wrote};
 ghost use Rattle.relay.specs.Told.{CheckTold, ReadTold, ShowTold, CountTold, LabelTold, SwapTold, RunTold, RecoverTold};
 
-use checks::CheckAnswer;
-use counting::CountAnswer;
 use diagrams::Variable;
-use reading::ReadAnswer;
 
+#[tactic(auto, using(crate::proofs::Laws::check_fits))]
 #[unsafe(no_mangle)]
 pub extern "C" fn relay_check(table: &[u8], roots: &[u8], order: &[u8], answer: &mut [u32]) -> usize
     ensures { CheckTold table.now roots.now order.now answer.old (wrote result answer.new) }
 {
-    match checks::check(table, roots, order) {
-        CheckAnswer::Accepted(used) => {
-            let numbers = [0u32, used as u32];
-            relay_numbers::write(answer, &numbers)
-        }
-        CheckAnswer::Refused(refusal) => relay_numbers::tell_refusal(answer, refusal),
-    }
+    relay_numbers::tell_number(answer, checks::check(table, roots, order))
 }
 
+#[tactic(auto, using(crate::proofs::Laws::read_place_fits))]
 #[unsafe(no_mangle)]
 pub extern "C" fn relay_read(
     table: &[u8],
@@ -36,15 +29,13 @@ pub extern "C" fn relay_read(
         answer.old (wrote result answer.new) }
 {
     match reading::read(table, roots, order, position as usize, inputs) {
-        ReadAnswer::Value(value) => {
-            let numbers = [0u32, value as u32];
-            relay_numbers::write(answer, &numbers)
-        }
-        ReadAnswer::Refused(refusal) => relay_numbers::tell_refusal(answer, refusal),
+        Ok(value) => relay_numbers::write(answer, &[0, u32::from(value)]),
+        Err(refusal) => relay_numbers::tell_refusal(answer, refusal),
     }
 }
 
 // Where the part that `showing::show` hands back begins, and its length.
+#[tactic(auto, using(crate::proofs::Laws::part_fits))]
 #[unsafe(no_mangle)]
 pub extern "C" fn relay_show(
     table: &[u8],
@@ -61,6 +52,7 @@ pub extern "C" fn relay_show(
 }
 
 // Which list `labels::label` hands back a part of, where that part begins, and its length.
+#[tactic(auto, using(crate::proofs::Laws::place_fits))]
 #[unsafe(no_mangle)]
 pub extern "C" fn relay_label(
     site: &[u8],
@@ -75,6 +67,7 @@ pub extern "C" fn relay_label(
 }
 
 // The count and its share each in a place of its own.
+#[tactic(auto, using(crate::proofs::Laws::count_tells))]
 #[unsafe(no_mangle)]
 pub extern "C" fn relay_count(
     table: &[u8],
@@ -88,17 +81,16 @@ pub extern "C" fn relay_count(
     ensures { CountTold table.now roots.now order.now position counts.old shares.old
         answer.old (wrote result answer.new) counts.new shares.new }
 {
-    if (answer.len() < 2) | (counts.len() < 1) | (shares.len() < 1) {
+    if answer.len() < 2 || counts.is_empty() || shares.is_empty() {
         return 0;
     }
     match counting::count(table, roots, order, position as usize) {
-        CountAnswer::Counted { count, share } => {
-            counts[0] = count;
-            shares[0] = share;
-            let numbers = [0u32];
-            relay_numbers::write(answer, &numbers)
+        Ok(trips) => {
+            counts[0] = trips.count;
+            shares[0] = trips.share;
+            relay_numbers::write(answer, &[0])
         }
-        CountAnswer::Refused(refusal) => relay_numbers::tell_refusal(answer, refusal),
+        Err(refusal) => relay_numbers::tell_refusal(answer, refusal),
     }
 }
 
@@ -156,5 +148,5 @@ pub extern "C" fn relay_recover(
         return 0;
     }
     let a = recovery::recover(table, order, log);
-    relay_numbers::tell_recover(answer, a)
+    relay_numbers::tell_number(answer, a)
 }

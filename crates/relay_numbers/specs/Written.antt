@@ -1,6 +1,5 @@
 -- An answer's numbers written to a lent list: all of them at its front, or none where it is too short.
-use Rattle.std.specs.Prelude.{ℕ, cond, List, ◌++◌, ◌≡◌, ltb, length, drop}
-use Rattle.std.proofs.Common.{ap, ◌∙◌}
+use Rattle.std.specs.Prelude.{ℕ, cond, List, ◌++◌, ltb, length, drop}
 use Rattle.undo.specs.Stores.{State}
 
 pub record Written : Type 0 where
@@ -15,14 +14,6 @@ written list numbers =
     cond (ltb (length list) (length numbers))
     (wrote 0 list)
     (wrote (length numbers) (numbers ++ drop (length numbers) list))
-
--- the numbers of an answer are told where those of one that equals it are; or, the other way round, of one that was taken apart
-module _ {A : Type 0} (numbers : A → List ℕ) (list : List ℕ) {w : Written} {a b : A} where
-  pub tells_it : w ≡ written list (numbers a) → a ≡ b → w ≡ written list (numbers b)
-  tells_it e p = e ∙ ap (λ z. written list (numbers z)) p
-
-  pub tells_apart : a ≡ b → w ≡ written list (numbers b) → w ≡ written list (numbers a)
-  tells_apart p e = rw p e
 
 -- ---- a call that may change a table, an order and a log: only where its whole answer fits the lent list
 

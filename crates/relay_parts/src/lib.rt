@@ -11,7 +11,7 @@ ghost use Rattle.relay_parts.specs.Small.{Small};
 use labels::Place;
 use parts::Part;
 
-// The first number for a label: which list has it.
+// The first number for a label, as C reads it: which list has it. include/relay.h declares them.
 const NEITHER: u32 = 0;
 
 const SITE: u32 = 1;
@@ -32,17 +32,15 @@ pub fn tell_part(answer: &mut [u32], p: Part) -> usize
     requires { Small p }
     ensures { wrote result answer.new ≡ written answer.old (part.numbers p) }
 {
-    let numbers = span(p);
-    relay_numbers::write(answer, &numbers)
+    relay_numbers::write(answer, &span(p))
 }
 
 fn tell_part_of(answer: &mut [u32], list: u32, p: Part) -> usize
     requires { Small p }
     ensures { wrote result answer.new ≡ written answer.old (list ∷ part.numbers p) }
 {
-    let s = span(p);
-    let numbers = [list, s[0], s[1]];
-    relay_numbers::write(answer, &numbers)
+    let [from, length] = span(p);
+    relay_numbers::write(answer, &[list, from, length])
 }
 
 pub fn tell_place(answer: &mut [u32], place: Place) -> usize

@@ -1,5 +1,5 @@
 -- Counts and shares of the sheet's stores, and of some of our own: one table of examples under one claim, over the bytes.
-use Rattle.std.specs.Prelude.{ℕ, List, [], ◌∷◌, map, ◌≡◌, refl}
+use Rattle.std.specs.Prelude.{ℕ, List, [], ◌∷◌, map, ◌≡◌, refl, Err}
 use Rattle.std.specs.Float.{binary64}
 use Rattle.std.specs.Float.Ieee.{round, of_bits}
 use Rattle.lists.specs.Combinations.{combinations, passing, how_many}
@@ -12,12 +12,12 @@ use Rattle.diagrams.specs.Decode.{node_at, decode, eight, encode}
 use Rattle.diagrams.specs.Value.{chosen, met, value}
 use Rattle.count_shares.specs.Share.{share}
 use Rattle.checks.specs.Stages.{refusal}
+use Rattle.checks.specs.declared.Fault.TheVariants.{Idle, NoRoot}
 use Rattle.checks.specs.Check.{check_stages}
 use Rattle.checks.specs.Opened.{opened_stages}
 use Rattle.reading.specs.Read.{input_of, root_value}
-use Rattle.counting.specs.Count.{count_stages, trips, count_of}
-use Rattle.counting.specs.declared.CountAnswer.{CountAnswer}
-use Rattle.counting.specs.declared.CountAnswer.TheVariants.{Counted, Refused}
+use Rattle.counting.specs.Count as counting
+use Rattle.counting.specs.Count.{count_stages, trips, CountAnswer, count_of}
 use Rattle.sheet.specs.Sheet.{root_bytes}
 
 pub record Row : Type 0 where
@@ -32,7 +32,7 @@ row t r o position a = record { records = t; roots = r; order = o; position = po
 
 -- a count, and its share by the bits of the double
 unfoldable pub of : ℕ → ℕ → CountAnswer
-of c bits = Counted c (of_bits binary64 bits)
+of c bits = counting.counted c (of_bits binary64 bits)
 
 -- what Count answers, by the definition in its contract; `unfolding counted` opens all that it is computed with
 unfoldable pub counted : Row → CountAnswer
@@ -59,8 +59,8 @@ rows =
     ∷ row [] (0 ∷ 1 ∷ []) (0 ∷ 1 ∷ 2 ∷ []) 0 (of 0 0)
     ∷ row [] (0 ∷ 1 ∷ []) (0 ∷ 1 ∷ 2 ∷ []) 1 (of 8 0x3ff0_0000_0000_0000)
     -- no such root; a record that nothing names wins over that
-    ∷ row (node 0 0 1 ∷ []) (2 ∷ []) (0 ∷ []) 1 (Refused (refusal 10 1))
-    ∷ row (node 0 0 1 ∷ []) (1 ∷ []) (0 ∷ []) 1 (Refused (refusal 9 0))
+    ∷ row (node 0 0 1 ∷ []) (2 ∷ []) (0 ∷ []) 1 (Err (refusal NoRoot 1))
+    ∷ row (node 0 0 1 ∷ []) (1 ∷ []) (0 ∷ []) 1 (Err (refusal Idle 0))
     ∷ []
 
 -- every row comes out as it stands there

@@ -1,10 +1,11 @@
 -- Case A of the bench sheet with logs of its own, and rows of ours: the answer, and the log afterwards byte by byte.
-use Rattle.std.specs.Prelude.{ℕ, ◌*◌, List, [], ◌∷◌, ◌++◌, map, ◌≡◌, refl, replicate}
+use Rattle.std.specs.Prelude.{ℕ, ◌*◌, List, [], ◌∷◌, ◌++◌, map, ◌≡◌, refl, replicate, Ok, Err}
 use Rattle.diagrams.specs.Node.{Node, free, node}
 use Rattle.checks.specs.Stages.{refusal}
+use Rattle.checks.specs.declared.Fault.TheVariants.{BadLog, SealedLog}
 use Rattle.swap_ways.specs.Ways.{lack, short}
-use Rattle.runs.specs.declared.RunAnswer.{RunAnswer}
-use Rattle.runs.specs.declared.RunAnswer.TheVariants.{Done, NoRoom, LogShort, Paused, Refused}
+use Rattle.runs.specs.Run.{RunAnswer}
+use Rattle.runs.specs.declared.Slice.TheVariants.{Done, NoRoom, LogShort, Paused}
 use Rattle.sheet.specs.Sheet.{Given, root_bytes, outcome, ran_from}
 
 pub record LogRow : Type 0 where
@@ -50,18 +51,18 @@ cleared = 0 ∷ 0 ∷ 4 ∷ 0 ∷ replicate 12 0
 unfoldable pub rows : List LogRow
 rows =
     -- A with a log of 4 records, budget spent or not
-    swap (node 1 0 1 ∷ node 0 0 2 ∷ free ∷ []) (3 ∷ []) (replicate 64 0) 1 (LogShort 0 1 (short 0 4 3)) (replicate 64 0)
-    ∷ swap (node 1 0 1 ∷ node 0 0 2 ∷ free ∷ []) (3 ∷ []) (replicate 64 0) 0 (LogShort 0 1 (short 0 4 3)) (replicate 64 0)
+    swap (node 1 0 1 ∷ node 0 0 2 ∷ free ∷ []) (3 ∷ []) (replicate 64 0) 1 (Ok (LogShort 0 1 (short 0 4 3))) (replicate 64 0)
+    ∷ swap (node 1 0 1 ∷ node 0 0 2 ∷ free ∷ []) (3 ∷ []) (replicate 64 0) 0 (Ok (LogShort 0 1 (short 0 4 3))) (replicate 64 0)
     -- with 5 records, and with 6: the one behind the entries stays
-    ∷ swap (node 1 0 1 ∷ node 0 0 2 ∷ free ∷ []) (3 ∷ []) (replicate 80 0) 1 (Done 1 0) (entries ++ cleared)
-    ∷ swap (node 1 0 1 ∷ node 0 0 2 ∷ free ∷ []) (3 ∷ []) (old 5) 1 (Done 1 0) (entries ++ replicate 16 7 ++ cleared)
-    ∷ swap (node 1 0 1 ∷ node 0 0 2 ∷ free ∷ []) (3 ∷ []) (old 4) 0 (Paused 0 1) (old 4)
+    ∷ swap (node 1 0 1 ∷ node 0 0 2 ∷ free ∷ []) (3 ∷ []) (replicate 80 0) 1 (Ok (Done 1 0)) (entries ++ cleared)
+    ∷ swap (node 1 0 1 ∷ node 0 0 2 ∷ free ∷ []) (3 ∷ []) (old 5) 1 (Ok (Done 1 0)) (entries ++ replicate 16 7 ++ cleared)
+    ∷ swap (node 1 0 1 ∷ node 0 0 2 ∷ free ∷ []) (3 ∷ []) (old 4) 0 (Ok (Paused 0 1)) (old 4)
     -- B with roots 3 and 2 and the shortest log: no room is judged first
-    ∷ swap (node 1 0 1 ∷ node 0 0 2 ∷ []) (3 ∷ 2 ∷ []) (replicate 16 0) 1 (NoRoom 0 1 (lack 0 1 0)) (replicate 16 0)
+    ∷ swap (node 1 0 1 ∷ node 0 0 2 ∷ []) (3 ∷ 2 ∷ []) (replicate 16 0) 1 (Ok (NoRoom 0 1 (lack 0 1 0))) (replicate 16 0)
     -- a log of no record, and one that is sealed; 14 wins over 15
-    ∷ swap (node 1 0 1 ∷ node 0 0 2 ∷ free ∷ []) (3 ∷ []) [] 1 (Refused (refusal 14 0)) []
-    ∷ swap (node 1 0 1 ∷ node 0 0 2 ∷ free ∷ []) (3 ∷ []) (165 ∷ replicate 15 0) 1 (Refused (refusal 15 0)) (165 ∷ replicate 15 0)
-    ∷ swap (node 1 0 1 ∷ node 0 0 2 ∷ free ∷ []) (3 ∷ []) (165 ∷ 0 ∷ 1 ∷ replicate 13 0) 1 (Refused (refusal 14 0)) (165 ∷ 0 ∷ 1 ∷ replicate 13 0)
+    ∷ swap (node 1 0 1 ∷ node 0 0 2 ∷ free ∷ []) (3 ∷ []) [] 1 (Err (refusal BadLog 0)) []
+    ∷ swap (node 1 0 1 ∷ node 0 0 2 ∷ free ∷ []) (3 ∷ []) (165 ∷ replicate 15 0) 1 (Err (refusal SealedLog 0)) (165 ∷ replicate 15 0)
+    ∷ swap (node 1 0 1 ∷ node 0 0 2 ∷ free ∷ []) (3 ∷ []) (165 ∷ 0 ∷ 1 ∷ replicate 13 0) 1 (Err (refusal BadLog 0)) (165 ∷ 0 ∷ 1 ∷ replicate 13 0)
     ∷ []
 
 pub logs : map logged rows ≡ map said rows

@@ -1,6 +1,6 @@
 -- Cases A to H and J of the bench sheet, G and H by every plan, and rows of our own: one table of examples under one claim. Each row is one run, over the
 -- bytes.
-use Rattle.std.specs.Prelude.{ℕ, ◌*◌, ◌/◌, ◌%◌, List, [], ◌∷◌, ◌++◌, map, ◌≡◌, refl, replicate}
+use Rattle.std.specs.Prelude.{ℕ, ◌*◌, ◌/◌, ◌%◌, List, [], ◌∷◌, ◌++◌, map, ◌≡◌, refl, replicate, Ok, Err}
 use Rattle.lists.specs.First.{first}
 use Rattle.lists.specs.Last.{last}
 use Rattle.lists.specs.Count.{count}
@@ -23,6 +23,7 @@ use Rattle.plans.specs.Numbered.{plan_of, no_plan}
 use Rattle.checks.specs.Stages.{refusal}
 use Rattle.checks.specs.Opened.{opened_stages}
 use Rattle.checks.specs.Check.{used}
+use Rattle.checks.specs.declared.Fault.TheVariants.{Idle, NoPlan}
 use Rattle.swap_rules.specs.Record.{low_of, high_of, is_free_node, is_of, same}
 use Rattle.swap_rules.specs.Swap.{x_at, y_at, grandchild, f00, f01, f10, f11, crosses, asked, stands, is_new, wanted, news, still_names, dies, slots, slot_of}
 use Rattle.swap_rules.specs.Swap.{dying_count, X, becomes, needed, free_count, used_count, used_afterwards, fits, slot_index, filled, record_after, swapped}
@@ -35,9 +36,8 @@ use Rattle.swap_ways.specs.Ways.{way_of, lack}
 use Rattle.slice_rules.specs.Slices as over
 use Rattle.slice_rules.specs.Slices.{arrived, next, goes, made, leaves, slice}
 use Rattle.runs.specs.OneSwap.{plain_swap}
-use Rattle.runs.specs.Run.{relay, run_stores, bad_run_sizes, order_stages, store_stages, run_stages, answer_of, run_call, run_of}
-use Rattle.runs.specs.declared.RunAnswer.{RunAnswer}
-use Rattle.runs.specs.declared.RunAnswer.TheVariants.{Done, NoRoom, Paused, Refused}
+use Rattle.runs.specs.Run.{relay, run_stores, bad_run_sizes, order_stages, store_stages, run_stages, RunAnswer, answer_of, run_call, run_of}
+use Rattle.runs.specs.declared.Slice.TheVariants.{Done, NoRoom, Paused}
 
 -- the buffers, the plan's number and the budget of a run
 pub record Given : Type 0 where
@@ -116,50 +116,50 @@ orders o g p b a o' =
 
 -- three swaps from o to g, by a plan: the orders after the first and the second
 unfoldable pub in_three : List ℕ → List ℕ → ℕ → List ℕ → List ℕ → List Row
-in_three o g p o₁ o₂ = orders o g p 1 (Paused 1 2) o₁ ∷ orders o g p 2 (Paused 2 1) o₂ ∷ orders o g p 9 (Done 3 0) g ∷ []
+in_three o g p o₁ o₂ = orders o g p 1 (Ok (Paused 1 2)) o₁ ∷ orders o g p 2 (Ok (Paused 2 1)) o₂ ∷ orders o g p 9 (Ok (Done 3 0)) g ∷ []
 
 unfoldable pub stores : List Row
 stores =
     -- A
     swap (node 1 0 1 ∷ node 0 0 2 ∷ free ∷ []) (3 ∷ []) 1
-    1 (Done 1 0) (free ∷ node 1 0 4 ∷ node 0 0 1 ∷ []) (1 ∷ 0 ∷ []) 2
+    1 (Ok (Done 1 0)) (free ∷ node 1 0 4 ∷ node 0 0 1 ∷ []) (1 ∷ 0 ∷ []) 2
     -- B: A with only records 0 and 1: the new record takes the one that dies; with roots 3 and 2 that one lives, and there is no room
     ∷ swap (node 1 0 1 ∷ node 0 0 2 ∷ []) (3 ∷ []) 1
-    1 (Done 1 0) (node 0 0 1 ∷ node 1 0 2 ∷ []) (1 ∷ 0 ∷ []) 2
+    1 (Ok (Done 1 0)) (node 0 0 1 ∷ node 1 0 2 ∷ []) (1 ∷ 0 ∷ []) 2
     ∷ swap (node 1 0 1 ∷ node 0 0 2 ∷ []) (3 ∷ 2 ∷ []) 1
-    1 (NoRoom 0 1 (lack 0 1 0)) (node 1 0 1 ∷ node 0 0 2 ∷ []) (0 ∷ 1 ∷ []) 2
+    1 (Ok (NoRoom 0 1 (lack 0 1 0))) (node 1 0 1 ∷ node 0 0 2 ∷ []) (0 ∷ 1 ∷ []) 2
     -- C: A with roots 3 and 2: record 0 stays
     ∷ swap (node 1 0 1 ∷ node 0 0 2 ∷ free ∷ []) (3 ∷ 2 ∷ []) 1
-    1 (Done 1 0) (node 1 0 1 ∷ node 1 0 4 ∷ node 0 0 1 ∷ []) (1 ∷ 0 ∷ []) 3
+    1 (Ok (Done 1 0)) (node 1 0 1 ∷ node 1 0 4 ∷ node 0 0 1 ∷ []) (1 ∷ 0 ∷ []) 3
     -- D: none is free, and none is needed
     ∷ swap (node 1 0 1 ∷ node 0 0 2 ∷ node 0 0 1 ∷ []) (3 ∷ 4 ∷ []) 1
-    0 (Done 1 0) (free ∷ node 1 0 4 ∷ node 0 0 1 ∷ []) (1 ∷ 0 ∷ []) 2
+    0 (Ok (Done 1 0)) (free ∷ node 1 0 4 ∷ node 0 0 1 ∷ []) (1 ∷ 0 ∷ []) 2
     -- E: the order alone is altered
     ∷ swap (node 0 0 1 ∷ node 1 0 1 ∷ []) (2 ∷ 3 ∷ []) 1
-    0 (Done 1 0) (node 0 0 1 ∷ node 1 0 1 ∷ []) (1 ∷ 0 ∷ []) 2
+    0 (Ok (Done 1 0)) (node 0 0 1 ∷ node 1 0 1 ∷ []) (1 ∷ 0 ∷ []) 2
     -- F: exclusive or; and with one record fewer: the first new record takes the free one, the second the lower of the two that die
     ∷ swap (node 1 0 1 ∷ node 1 1 0 ∷ node 0 2 3 ∷ free ∷ free ∷ []) (4 ∷ []) 1
-    2 (Done 1 0) (free ∷ free ∷ node 1 5 6 ∷ node 0 0 1 ∷ node 0 1 0 ∷ []) (1 ∷ 0 ∷ []) 3
+    2 (Ok (Done 1 0)) (free ∷ free ∷ node 1 5 6 ∷ node 0 0 1 ∷ node 0 1 0 ∷ []) (1 ∷ 0 ∷ []) 3
     ∷ swap (node 1 0 1 ∷ node 1 1 0 ∷ node 0 2 3 ∷ free ∷ []) (4 ∷ []) 1
-    2 (Done 1 0) (node 0 1 0 ∷ free ∷ node 1 5 2 ∷ node 0 0 1 ∷ []) (1 ∷ 0 ∷ []) 3
+    2 (Ok (Done 1 0)) (node 0 1 0 ∷ free ∷ node 1 5 2 ∷ node 0 0 1 ∷ []) (1 ∷ 0 ∷ []) 3
     -- two crossing records that ask for the same new one: it is made for the lower and serves the other
     ∷ swap (node 1 0 1 ∷ node 0 0 2 ∷ node 0 2 1 ∷ free ∷ []) (3 ∷ 4 ∷ []) 1
-    1 (Done 1 0) (free ∷ node 1 0 5 ∷ node 1 5 1 ∷ node 0 0 1 ∷ []) (1 ∷ 0 ∷ []) 3
+    1 (Ok (Done 1 0)) (free ∷ node 1 0 5 ∷ node 1 5 1 ∷ node 0 0 1 ∷ []) (1 ∷ 0 ∷ []) 3
     -- two that ask for different ones: the lower record's goes to the lower free record
     ∷ swap (node 1 0 1 ∷ node 0 0 2 ∷ node 0 1 2 ∷ free ∷ free ∷ []) (3 ∷ 4 ∷ []) 1
-    2 (Done 1 0) (free ∷ node 1 0 5 ∷ node 1 6 1 ∷ node 0 0 1 ∷ node 0 1 0 ∷ []) (1 ∷ 0 ∷ []) 4
+    2 (Ok (Done 1 0)) (free ∷ node 1 0 5 ∷ node 1 6 1 ∷ node 0 0 1 ∷ node 0 1 0 ∷ []) (1 ∷ 0 ∷ []) 4
     -- J: budget 0 in A, in B with roots 3 and 2, and with the order equal to the target
     ∷ swap (node 1 0 1 ∷ node 0 0 2 ∷ free ∷ []) (3 ∷ []) 0
-    1 (Paused 0 1) (node 1 0 1 ∷ node 0 0 2 ∷ free ∷ []) (0 ∷ 1 ∷ []) 2
+    1 (Ok (Paused 0 1)) (node 1 0 1 ∷ node 0 0 2 ∷ free ∷ []) (0 ∷ 1 ∷ []) 2
     ∷ swap (node 1 0 1 ∷ node 0 0 2 ∷ []) (3 ∷ 2 ∷ []) 0
-    1 (NoRoom 0 1 (lack 0 1 0)) (node 1 0 1 ∷ node 0 0 2 ∷ []) (0 ∷ 1 ∷ []) 2
-    ∷ orders (1 ∷ 0 ∷ []) (1 ∷ 0 ∷ []) 0 0 (Done 0 0) (1 ∷ 0 ∷ [])
+    1 (Ok (NoRoom 0 1 (lack 0 1 0))) (node 1 0 1 ∷ node 0 0 2 ∷ []) (0 ∷ 1 ∷ []) 2
+    ∷ orders (1 ∷ 0 ∷ []) (1 ∷ 0 ∷ []) 0 0 (Ok (Done 0 0)) (1 ∷ 0 ∷ [])
     -- no plan has this number; a record that nothing names wins over that
-    ∷ orders (0 ∷ 1 ∷ []) (1 ∷ 0 ∷ []) 4 1 (Refused (refusal 13 4)) (0 ∷ 1 ∷ [])
+    ∷ orders (0 ∷ 1 ∷ []) (1 ∷ 0 ∷ []) 4 1 (Err (refusal NoPlan 4)) (0 ∷ 1 ∷ [])
     ∷ record {
       given = record { records = node 0 0 1 ∷ []; roots = []; order = 0 ∷ 1 ∷ []; target = 1 ∷ 0 ∷ []; log = empty_log 8; plan = 4; budget = 1 };
       needed = 0;
-      answer = Refused (refusal 9 0);
+      answer = Err (refusal Idle 0);
       records = node 0 0 1 ∷ [];
       order = 0 ∷ 1 ∷ [];
       used = 1;
