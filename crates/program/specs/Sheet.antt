@@ -39,7 +39,8 @@ pln = 0 ∷ []
 
 case_A : text_with log nod rts ord tgt pln [] [] ≡ bytes "plan 0\ndone swaps 1 left 0\norder 1 0\n0 free\n1 1 0 4\n2 0 0 1\nroots 3\n"
 unfolding log nod rts ord tgt pln outcome first found places decimal numbered before_zero in_turn variable_text order_line node_at
-    content_text record_line label_line label_text record_text root_text roots_line listing swaps_text slice_text refusal_text answer_text answer_line plan_line plan_text store_text
+    content_text record_line label_line label_text record_text root_text roots_line listing swaps_text slice_text refusal_text answer_text
+        answer_line plan_line plan_text store_text
     printed bad_length names label_of text_of job_with text_with
 case_A = refl
 
@@ -56,7 +57,8 @@ lbf = (0 ∷ padded (bytes "52a closed")) ++ (1 ∷ padded (bytes "input 2"))
 labelled : text_with log nod rts ord tgt pln lbs lbf
     ≡ bytes "plan 0\ndone swaps 1 left 0\norder 1 0\n0 free\n1 1 0 4\n87G picked up\n2 0 0 1\n52a closed\nroots 3\n"
 unfolding log nod rts ord tgt pln lbs lbf padded outcome first found places decimal numbered before_zero in_turn variable_text order_line node_at
-    content_text record_line label_line label_text record_text root_text roots_line listing swaps_text slice_text refusal_text answer_text answer_line plan_line plan_text
+    content_text record_line label_line label_text record_text root_text roots_line listing swaps_text slice_text refusal_text answer_text
+        answer_line plan_line plan_text
     store_text printed bad_length names label_of text_of job_with text_with
 labelled = refl
 
@@ -67,11 +69,13 @@ plan_2 = refl
 
 -- a number that no plan has, and a file that isn't one byte
 no_plan_lem : text_with log nod rts ord tgt (200 ∷ []) [] [] ≡ bytes "refused 13 place 200\n"
-unfolding log nod rts ord tgt outcome first found places decimal numbered slice_text refusal_text answer_text answer_line plan_line plan_text store_text printed job_with text_with
+unfolding log nod rts ord tgt outcome first found places decimal numbered slice_text refusal_text answer_text answer_line plan_line plan_text
+    store_text printed job_with text_with
 no_plan_lem = refl
 
 empty_plan : text_with log nod rts ord tgt [] [] [] ≡ bytes "refused 13 place 0\n"
-unfolding log nod rts ord tgt outcome first found places decimal numbered slice_text refusal_text answer_text answer_line plan_line plan_text store_text printed job_with text_with
+unfolding log nod rts ord tgt outcome first found places decimal numbered slice_text refusal_text answer_text answer_line plan_line plan_text
+    store_text printed job_with text_with
 empty_plan = refl
 
 no_room : answer_text (Ok (NoRoom 0 1 (lack 0 1 0))) ≡ bytes "no room swaps 0 left 1 level 0 needed 1 free 0"

@@ -129,7 +129,8 @@ module _ {t : List ℕ} {p : Pair} {w : Work} (R : Reckoned t p w) where
   unfolding placed
   crossed_row d f =
       ap (fold (placed y w.kept w.crossing) (row t d f)) R.kept_long
-      ∙ fold_agrees _ (through w.crossing into) (row t d f) (length w.crossing) (λ l j b. ap (λ m. stored_at l (get_or w.crossing j 0) (eight m)) (R.kept_are j b))
+      ∙ fold_agrees _ (through w.crossing into) (row t d f) (length w.crossing)
+      (λ l j b. ap (λ m. stored_at l (get_or w.crossing j 0) (eight m)) (R.kept_are j b))
       ∙ ap (λ (l : List ℕ). fold (through l into) (row t d f) (length l)) R.crossing_are.is
       ∙ fold_which into (crosses_at t x y) (row t d f) (records t)
       ∙ stores_where (crosses_at t x y) (λ i. becomes_in t x y w.slots (ref i)) f d (records t)
@@ -176,7 +177,9 @@ module _ {t : List ℕ} {p : Pair} {w : Work} {free_slots : ℕ} {image : List �
   pub copyable : {dying : List ℕ} → dying ≡ drop free_slots w.slots → Copyable t dying image
   copyable e = record {
     long = F.long;
-    inside = record { at = λ k b. rw (e, get_or-drop) (omega (arith, F.inside.at (free_slots + k) (omega (arith, ap length e, length-drop free_slots w.slots)))) };
+    inside = record {
+      at = λ k b. rw (e, get_or-drop) (omega (arith, F.inside.at (free_slots + k) (omega (arith, ap length e, length-drop free_slots w.slots))));
+    };
   }
 
   module _ (l : List ℕ) (same : length l ≡ length image) where

@@ -12,7 +12,8 @@ overflow_mul-entries c =
 
 pub write-requires : goal.write-requires
 write-requires c =
-    let room = logs_room _ _ _ c.loop-i.invariant c.is_changed.ensures c.if-is_changed.true (omega arith) c.requires.room (omega arith) in omega (arith, ap length c.record_entry.ensures)
+    let room = logs_room _ _ _ c.loop-i.invariant c.is_changed.ensures c.if-is_changed.true (omega arith) c.requires.room (omega arith) in
+    omega (arith, ap length c.record_entry.ensures)
 
 pub overflow_add-entries : goal.overflow_add-entries
 overflow_add-entries c = search logs

@@ -9,7 +9,11 @@ pub place_records-requires : goal.place_records-requires
 place_records-requires c = search (slots_there, rules)
 
 pub place_records-requires-2 : goal.place_records-requires-2
-place_records-requires-2 c = ((crossing_there c.requires _ (search rules) (search rules), kept_fit c.requires (search rules) (search rules)), c.requires.small_y)
+place_records-requires-2 c =
+    ((crossing_there c.requires _ (search rules) (search rules), kept_fit c.requires (search rules) (search rules)),
+    c.requires.small_y)
 
 pub returns : goal.returns
-returns c = filled_by c.requires (slice_past _ c.as_slice-slots.ensures) (search rules) (search rules) (search rules) (search rules) c.copy_living.ensures c.place_records.ensures c.place_records-2.ensures
+returns c =
+    filled_by c.requires (slice_past _ c.as_slice-slots.ensures) (search rules) (search rules) (search rules) (search rules) c.copy_living.ensures
+    c.place_records.ensures c.place_records-2.ensures

@@ -17,4 +17,6 @@ pub returns-in-Some-find_new : goal.returns-in-Some-find_new
 returns-in-Some-find_new c = note_known c.requires.0 _ _ c.eq.ensures c.if-eq.false c.in_default.ensures c.new-wanted.ensures (search rules) c.slot.ensures
 
 pub returns : goal.returns
-returns c = note_new c.requires.0 _ _ c.eq.ensures c.if-eq.false c.in_default.ensures c.new-wanted.ensures (search rules) (search rules) c.push.ensures c.slot-2.ensures
+returns c =
+    note_new c.requires.0 _ _ c.eq.ensures c.if-eq.false c.in_default.ensures c.new-wanted.ensures (search rules) (search rules) c.push.ensures
+    c.slot-2.ensures
