@@ -1,89 +1,47 @@
 // Run one slice of planned swaps towards a target order.
 #![tactic(auto)]
 
-ghost use Rattle.std.specs.Prelude.{◌≡◌, ◌+◌, ◌<◌};
-ghost use Rattle.orders.specs.Permutation.{ceiling};
-ghost use Rattle.orders.specs.Order.{Inverse};
-ghost use Rattle.orders.specs.Arranged.{bytes_of};
+ghost use Rattle.std.specs.Prelude.{◌≡◌, ◌+◌, ◌<◌, Ok};
 ghost use Rattle.plans.specs.Numbered.{meant};
-ghost use Rattle.checks.specs.Stages.{verdict_of};
+ghost use Rattle.plans.specs.Course.{to};
 ghost use Rattle.undo.specs.Stores.{state};
 ghost use Rattle.runs.specs.OneSwap.{plain_swap};
-ghost use Rattle.runs.specs.Run.{run_stages, slice_call, run_call, RunOutcome};
+ghost use Rattle.runs.specs.Run.{slice_call, run_call, RunOutcome};
 ghost use Rattle.runs.specs.Theorems.{Runnable};
 ghost use Rattle.slice_judging.specs.Drivable.{Drivable};
-ghost use Rattle.slices.specs.Work.{progress_of, Stepped, Driven, Stopped};
+ghost use Rattle.slices.specs.Work.{Stepped, Driven, Stopped};
 
-use checks::Verdict;
+use checks::Refusal;
 use orders::Order;
-use pen::ENOUGH;
-use plans::Plan;
-use runs::RunAnswer;
+use pen::{ENOUGH, Pen};
+use plans::{Course, Plan};
+use runs::Slice;
 use slice_judging::Reached;
 use swap_ways::Way;
-use swaps::Swapping;
 
-// Whether a planned swap was made, the order then, and the fuel left.
-#[derive(Clone, Copy)]
-pub struct Progress {
-    pub moved: bool,
-    pub order: Order,
-    pub fuel: usize,
-}
-
-// ---- one planned swap
-
-// `current` is the order of the lent bytes.
+// One planned swap: the course after it, where it is made. `course` has the order of the lent bytes.
 fn step(
     table: &mut [u8],
     roots: &[u8],
     order: &mut [u8],
     log: &mut [u8],
-    current: Order,
-    goal: Order,
-    n: usize,
+    course: &Course,
     plan: Plan,
-    fuel: usize,
-) -> Progress
-    requires { Drivable table.old roots.now order.old log.old current goal n }
-    ensures { Stepped plain_swap (meant plan) (state table.old order.old log.old) roots.now (bytes_of goal n) n fuel result
-        (state table.new order.new log.new) }
+    pen: &mut Pen,
+) -> Option<Course>
+    requires { Drivable table.old roots.now order.old log.old course.now }
+    ensures { Stepped plain_swap (meant plan) roots.now (to course.now) (state table.old order.old log.old) pen.old.fuel result
+        (state table.new order.new log.new) pen.new.fuel }
 {
-    if plans::same(current, goal, n) {
-        return Progress {
-            moved: false,
-            order: current,
-            fuel,
-        };
-    }
-    let level = plans::next_level(plan, current, goal, n);
-    let done = swaps::swap_buffers(table, roots, order, log, level, fuel);
-    progress_of(done, current, level)
-}
-
-// The order after a swap, if it was made.
-fn progress_of(done: Swapping, current: Order, level: usize) -> Progress
-    requires { (level + 1 < ceiling) × Inverse current }
-    ensures { result ≡ progress_of done current level }
-{
-    let fuel = done.fuel;
-    let way = done.way;
-    match way {
-        Way::Clear => Progress {
-            moved: true,
-            order: current.exchanged(level),
-            fuel,
-        },
-        Way::NoRoom(_) => Progress {
-            moved: false,
-            order: current,
-            fuel,
-        },
-        Way::LogShort(_) => Progress {
-            moved: false,
-            order: current,
-            fuel,
-        },
+    let level = course.next_level(plan)?;
+    match swaps::swap_buffers(table, roots, order, log, level, pen) {
+        Way::Clear => Some(Course {
+            order: course.order.exchanged(level),
+            target: course.target,
+            n: course.n,
+        }),
+        Way::NoRoom(_) => None,
+        Way::LogShort(_) => None,
     }
 }
 
@@ -93,72 +51,39 @@ fn drive(
     roots: &[u8],
     order: &mut [u8],
     log: &mut [u8],
-    start: Order,
-    goal: Order,
-    n: usize,
+    start: Course,
     plan: Plan,
     budget: usize,
-    fuel: usize,
+    pen: &mut Pen,
 ) -> Reached
-    requires { Drivable table.old roots.now order.old log.old start goal n }
-    ensures { Driven plain_swap (meant plan) (state table.old order.old log.old) roots.now goal n budget fuel result
+    requires { Drivable table.old roots.now order.old log.old start }
+    ensures { Driven plain_swap (meant plan) roots.now (to start) (state table.old order.old log.old) budget pen.old.fuel result
         (state table.new order.new log.new) }
 {
-    let mut current = start;
-    let mut swaps: usize = 0;
-    let mut left = fuel;
-    while swaps < budget {
-        let p = step(table, roots, order, log, current, goal, n, plan, left);
-        if !p.moved {
+    let mut course = start;
+    for swaps in 0..budget {
+        let Some(next) = step(table, roots, order, log, &course, plan, pen) else {
             return Reached {
-                order: current,
+                course,
                 swaps,
-                fuel: left,
+                fuel: pen.fuel,
             };
-        }
-        current = p.order;
-        left = p.fuel;
-        swaps += 1;
-        if left == 0 {
+        };
+        course = next;
+        if pen.fuel == 0 {
             return Reached {
-                order: current,
-                swaps,
+                course,
+                swaps: swaps + 1,
                 fuel: 0,
             };
         }
     }
     Reached {
-        order: current,
-        swaps,
-        fuel: left,
+        course,
+        swaps: budget,
+        fuel: pen.fuel,
     }
 }
-
-// ---- the slice
-
-// One slice towards a goal.
-fn run_towards(
-    table: &mut [u8],
-    roots: &[u8],
-    order: &mut [u8],
-    log: &mut [u8],
-    start: Order,
-    goal: Order,
-    n: usize,
-    plan: Plan,
-    budget: usize,
-    fuel: usize,
-) -> RunAnswer
-    requires { Drivable table.old roots.now order.old log.old start goal n }
-    ensures { Stopped fuel (slice_call plain_swap (meant plan) (state table.old order.old log.old) roots.now
-        (bytes_of goal n) budget) (state table.old order.old log.old) result
-        (state table.new order.new log.new) }
-{
-    let reached = drive(table, roots, order, log, start, goal, n, plan, budget, fuel);
-    slice_judging::answer_of(table, roots, order, log, reached, goal, n, plan)
-}
-
-// ---- the entry
 
 // One slice of a table that is accepted, towards a permutation of its variables, with an empty log.
 fn run_slice(
@@ -168,61 +93,25 @@ fn run_slice(
     target: &[u8],
     log: &mut [u8],
     plan: Plan,
-    budget: u32,
+    budget: usize,
     fuel: usize,
-) -> RunAnswer
+) -> Slice
     requires { Runnable plain_swap (state table.old order.old log.old) roots.now target.now }
     ensures { Stopped fuel (slice_call plain_swap (meant plan) (state table.old order.old log.old) roots.now
-        target.now budget) (state table.old order.old log.old) result
+        target.now budget) (state table.old order.old log.old) (Ok result)
         (state table.new order.new log.new) }
 {
-    let n = order.len();
-    let goal = Order::load(target);
-    let start = Order::load(order);
-    run_towards(
-        table,
-        roots,
-        order,
-        log,
-        start,
-        goal,
-        n,
-        plan,
-        budget as usize,
-        fuel,
-    )
+    let course = Course {
+        order: Order::load(order),
+        target: Order::load(target),
+        n: order.len(),
+    };
+    let mut pen = Pen { fuel };
+    let reached = drive(table, roots, order, log, course, plan, budget, &mut pen);
+    slice_judging::answer_of(table, roots, order, log, &reached, plan)
 }
 
-fn run_judged(
-    table: &mut [u8],
-    roots: &[u8],
-    order: &mut [u8],
-    target: &[u8],
-    log: &mut [u8],
-    plan: usize,
-    budget: u32,
-    verdict: Verdict,
-    fuel: usize,
-) -> RunAnswer
-    requires { verdict ≡ verdict_of (run_stages plain_swap plan table.old roots.now order.old target.now log.old) }
-    ensures { Stopped fuel (run_call plain_swap plan (state table.old order.old log.old) roots.now
-        target.now budget) (state table.old order.old log.old) result
-        (state table.new order.new log.new) }
-{
-    match verdict {
-        Verdict::Refused(refusal) => RunAnswer::Refused(refusal),
-        Verdict::Clear => run_slice(
-            table,
-            roots,
-            order,
-            target,
-            log,
-            plans::numbered(plan),
-            budget,
-            fuel,
-        ),
-    }
-}
+// ---- the entry
 
 // Run, cut after `fuel` stores.
 pub fn run_cut(
@@ -234,16 +123,22 @@ pub fn run_cut(
     plan: u32,
     budget: u32,
     fuel: usize,
-) -> RunAnswer
+) -> Result<Slice, Refusal>
     ensures { Stopped fuel (run_call plain_swap plan (state table.old order.old log.old) roots.now
         target.now budget) (state table.old order.old log.old) result
         (state table.new order.new log.new) }
 {
-    let number = plan as usize;
-    let verdict = runs::verdict_of_run(table, roots, order, target, log, number);
-    run_judged(
-        table, roots, order, target, log, number, budget, verdict, fuel,
-    )
+    let plan = runs::verdict_of_run(table, roots, order, target, log, plan as usize)?;
+    Ok(run_slice(
+        table,
+        roots,
+        order,
+        target,
+        log,
+        plan,
+        budget as usize,
+        fuel,
+    ))
 }
 
 pub fn run(
@@ -254,7 +149,7 @@ pub fn run(
     log: &mut [u8],
     plan: u32,
     budget: u32,
-) -> RunAnswer
+) -> Result<Slice, Refusal>
     ensures { RunOutcome plain_swap plan (state table.old order.old log.old) roots.now target.now budget result
         (state table.new order.new log.new) }
 {
