@@ -28,20 +28,20 @@ pub fn run(
 {
     // The longest log, empty.
     let mut log = [0u8; ENTRY_SIZE * MOST_LOG_RECORDS];
-    let &[number] = plan else {
+    if plan.len() != 1 {
         runs::verdict_of_store(table, roots, order, target, &log)?;
         return Err(Refusal {
             fault: Fault::NoPlan,
             place: 0,
         });
-    };
+    }
     slices::run(
         table,
         roots,
         order,
         target,
         &mut log,
-        u32::from(number),
+        number_in(plan) as u32,
         u32::MAX,
     )
 }
