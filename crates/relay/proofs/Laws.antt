@@ -1,6 +1,6 @@
 -- Laws of telling an answer, over plain variables.
 use Prim.Native.Nat.{ℕ, ◌≤◌, ◌<◌}
-use mathlib.Core.Bool.{Bool, true, false, ◌||◌}
+use mathlib.Core.Bool.{Bool, true, ◌||◌}
 use mathlib.Core.List.{List, [], ◌∷◌}
 use mathlib.Core.Path.{◌≡◌, refl, ap, sym, ◌∙◌, subst}
 use native.Mathlib.Omega.{arith}
@@ -17,7 +17,6 @@ use Rattle.checks.specs.Check.{CheckAnswer, CheckOutcome}
 use Rattle.checks.specs.Stages.{number}
 use Rattle.checks.proofs.Theorems.{used_small, check_place_small}
 use Rattle.checks.specs.declared.Refusal.{Refusal}
-use Rattle.reading.specs.Read as reading
 use Rattle.reading.specs.Read.{ReadAnswer, ReadOutcome}
 use Rattle.showing.specs.Show.{part_of}
 use Rattle.showing.proofs.Parts.{part_inside, part_small}
