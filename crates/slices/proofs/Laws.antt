@@ -21,7 +21,7 @@ use Rattle.plans.proofs.Next.{next_some}
 use Rattle.slice_rules.specs.Slices as over
 use Rattle.slice_rules.proofs.Slices as over_laws
 use Rattle.slice_rules.specs.Slices.{Relay}
-use Rattle.slice_rules.proofs.Slices.{slicing_begins, slicing_goes, slicing_rests, slicing_ends}
+use Rattle.slice_rules.proofs.Slices.{slicing_begins, slicing_goes, slicing_rests}
 use Rattle.check_sizes.specs.Sizes.{TableSizes, sized}
 use Rattle.checks.specs.Stages.{clear_only}
 use Rattle.checks.specs.declared.Refusal.{Refusal}
@@ -178,14 +178,6 @@ module _ (name : coded.Plan) {g t₀ r o₀ log₀ : List ℕ} {budget f : ℕ} 
         judgeable = record { drivable = λ h. d.drivable };
         target = d.target;
       })
-
-  pub drive_ends : i ≡ budget → Driven plain_swap P r g begun budget f (record { course = course; swaps = budget; fuel = left }) now_at
-  drive_ends all = record {
-    spent = spent_as d.spent (ap all_stores all);
-    sliced = λ h. subst (λ m. over_laws.Sliced R P g begun budget m now_at) all (slicing_ends R P g d.so_far (omega arith));
-    judgeable = record { drivable = λ h. d.drivable };
-    target = d.target;
-  }
 
   module _ {next : Course} {s' : State} {m : ℕ} (moved : Moved plain_swap P r (to course) now_at left next s' m) (l : i < budget) where
     w : Moved plain_swap P r g now_at left next s' m
