@@ -15,7 +15,7 @@ pub found_by_find : {F : Type 0} {g : Mut F (Bor ℕ × Unit {0}) Bool} (s u : R
     → ((x : ℕ) (b : Bool) (q : F) → CalledAt g f x b q → (q ≡ f) × (b ≡ p x))
     → s ≡ record { start = 0; end = m } → m ≡ n
     → (xs : List ℕ) × (j : F) × YieldsThen nat_range_steps s xs r u × FoldsTo (λ a x q. CalledAt g a x false q) f xs j
-        × MatchOption r ⊤ (λ x. (h : F) × CalledAt g j x true h)
+    × MatchOption r ⊤ (λ x. (h : F) × CalledAt g j x true h)
     → r ≡ found p n
 found_by_find s u f r {m} {n} p calls e z ran =
     told r (first_from_Range s u f r (λ x. p x ≡ true) (λ x. p x ≡ false) ran

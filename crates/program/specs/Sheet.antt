@@ -40,7 +40,7 @@ pln = 0 ∷ []
 case_A : text_with log nod rts ord tgt pln [] [] ≡ bytes "plan 0\ndone swaps 1 left 0\norder 1 0\n0 free\n1 1 0 4\n2 0 0 1\nroots 3\n"
 unfolding log nod rts ord tgt pln outcome first found places decimal numbered before_zero in_turn variable_text order_line node_at
     content_text record_line label_line label_text record_text root_text roots_line listing swaps_text slice_text refusal_text answer_text
-        answer_line plan_line plan_text store_text
+    answer_line plan_line plan_text store_text
     printed bad_length names label_of text_of job_with text_with
 case_A = refl
 
@@ -58,7 +58,7 @@ labelled : text_with log nod rts ord tgt pln lbs lbf
     ≡ bytes "plan 0\ndone swaps 1 left 0\norder 1 0\n0 free\n1 1 0 4\n87G picked up\n2 0 0 1\n52a closed\nroots 3\n"
 unfolding log nod rts ord tgt pln lbs lbf padded outcome first found places decimal numbered before_zero in_turn variable_text order_line node_at
     content_text record_line label_line label_text record_text root_text roots_line listing swaps_text slice_text refusal_text answer_text
-        answer_line plan_line plan_text
+    answer_line plan_line plan_text
     store_text printed bad_length names label_of text_of job_with text_with
 labelled = refl
 

@@ -156,7 +156,13 @@ fn put_store(page: &mut Page, answer: Result<Slice, Refusal>, store: &Store, lab
 }
 
 #[tactic(auto, using(texts::specs::Put::putting), unfolding(crate::specs::Text::printed))]
-fn put_run(page: &mut Page, plan: usize, answer: Result<Slice, Refusal>, store: &Store, labels: &Lists)
+fn put_run(
+    page: &mut Page,
+    plan: usize,
+    answer: Result<Slice, Refusal>,
+    store: &Store,
+    labels: &Lists,
+)
     requires { Space page.old (printed plan answer (texts labels.now) store.now.table.now store.now.roots.now store.now.order.now) }
     ensures { Put page.old
         (printed plan answer (texts labels.now) store.now.table.now store.now.roots.now store.now.order.now)

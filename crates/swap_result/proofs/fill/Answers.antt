@@ -9,9 +9,10 @@ pub place_records-requires : goal.place_records-requires
 place_records-requires c = search (slots_there, rules)
 
 pub place_records-requires-2 : goal.place_records-requires-2
-place_records-requires-2 c =
-    ((crossing_there c.requires _ (search rules) (search rules), kept_fit c.requires (search rules) (search rules)),
-    c.requires.small_y)
+place_records-requires-2 c = (
+  (crossing_there c.requires _ (search rules) (search rules), kept_fit c.requires (search rules) (search rules)),
+  c.requires.small_y,
+)
 
 pub returns : goal.returns
 returns c =
