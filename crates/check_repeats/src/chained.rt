@@ -41,6 +41,7 @@ fn first_same(table: &[u8], chains: &Chains, b: usize, i: RecordNumber) -> Walke
     requires { Next table.now i.0 chains.now.head.now chains.now.link.now × ((b ≡ bucket_at table.now i.0) × (b < buckets + 1)) }
     ensures { Walks table.now i.0 result }
 {
+    // Along the links, which lead down: no index is counted.
     let mut found = None;
     let mut met = 0;
     let mut entry = chains.newest(b);

@@ -29,6 +29,7 @@ fn read_whole<R: Eprint, F: Read>(
     ensures within { Within result buffer.new }
     ensures bytes { ReadInto result (F.remaining file.old) (F.remaining file.new) buffer.new }
 {
+    // `read_exact` fails where the file ends first, and `read_to_end` needs a heap.
     let mut done = 0;
     while done < buffer.len() {
         let more = file
