@@ -133,7 +133,7 @@ module _ (list : List ℕ) (s : State) (r : List ℕ) (k : ℕ) where
     pub swap_told_fits : k < limit → Fits (swap.numbers a)
     swap_told_fits h = subst Fits (ap (λ (e : Ended SwapAnswer). swap.numbers e.answer) (sym outcome)) (swap_fits s r k h)
 
-pub ruleset swap_tells = (swap_nothing, swap_told_fits, swap_told, rules)
+pub ruleset swap_tells = (swap_told_fits, swap_told, rules)
 
 module _ (list : List ℕ) (s : State) (r g : List ℕ) (plan budget : ℕ) where
   pub run_nothing : length list < 6 → RunTold s r g plan budget list (wrote 0 list) s
@@ -148,7 +148,7 @@ module _ (list : List ℕ) (s : State) (r g : List ℕ) (plan budget : ℕ) wher
     pub run_told_fits : plan < limit → budget < limit → Fits (run.numbers a)
     run_told_fits p b = subst Fits (ap (λ (e : Ended RunAnswer). run.numbers e.answer) (sym outcome)) (run_fits s r g plan budget p b)
 
-pub ruleset run_tells = (run_nothing, run_told_fits, run_told, rules)
+pub ruleset run_tells = (run_told_fits, run_told, rules)
 
 -- what Recover answers is told by the same numbers as what Check does
 same_numbers : (a : Result ℕ Refusal) → check.numbers a ≡ recover.numbers a
@@ -168,4 +168,4 @@ module _ (list : List ℕ) (s : State) where
     pub recover_told_fits : NumberFits a
     recover_told_fits = subst NumberFits (ap (λ (e : Ended RecoverAnswer). e.answer) (sym outcome)) (recover_fits s)
 
-pub ruleset recover_tells = (recover_nothing, recover_told_fits, recover_told, rules)
+pub ruleset recover_tells = (recover_told_fits, recover_told, rules)

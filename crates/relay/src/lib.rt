@@ -94,6 +94,7 @@ pub extern "C" fn relay_count(
     }
 }
 
+#[tactic(auto, using(crate::proofs::Laws::swap_nothing))]
 #[unsafe(no_mangle)]
 pub extern "C" fn relay_swap(
     table: &mut [u8],
@@ -113,6 +114,7 @@ pub extern "C" fn relay_swap(
     relay_numbers::tell_swap(answer, a)
 }
 
+#[tactic(auto, using(crate::proofs::Laws::run_nothing))]
 #[unsafe(no_mangle)]
 pub extern "C" fn relay_run(
     table: &mut [u8],
@@ -134,6 +136,7 @@ pub extern "C" fn relay_run(
     relay_numbers::tell_run(answer, a)
 }
 
+#[tactic(auto, using(crate::proofs::Laws::recover_nothing))]
 #[unsafe(no_mangle)]
 pub extern "C" fn relay_recover(
     table: &mut [u8],

@@ -6,6 +6,3 @@ tell_number-requires c = search recover_tells
 
 pub returns : goal.returns
 returns c = search recover_tells
-
-pub returns-then-answer-lt2 : goal.returns-then-answer-lt2
-returns-then-answer-lt2 c = search recover_tells

@@ -6,6 +6,3 @@ tell_run-requires c = search run_tells
 
 pub returns : goal.returns
 returns c = search run_tells
-
-pub returns-then-answer-lt6 : goal.returns-then-answer-lt6
-returns-then-answer-lt6 c = search run_tells

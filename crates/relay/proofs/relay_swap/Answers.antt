@@ -6,6 +6,3 @@ tell_swap-requires c = search swap_tells
 
 pub returns : goal.returns
 returns c = search swap_tells
-
-pub returns-then-answer-lt4 : goal.returns-then-answer-lt4
-returns-then-answer-lt4 c = search swap_tells
