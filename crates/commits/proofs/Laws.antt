@@ -1,5 +1,5 @@
 -- The laws of the steps of the writing part.
-use Prim.Native.Nat.{ℕ, zero, suc, ◌+◌, ◌-◌, ◌*◌, ◌≤◌, ◌<◌}
+use Prim.Native.Nat.{ℕ, suc, ◌+◌, ◌-◌, ◌*◌, ◌≤◌, ◌<◌}
 use mathlib.Core.Bool.{Bool, true, false, cond, not, ◌&&◌, ◌||◌}
 use mathlib.Core.List.Memᴰ
 use mathlib.Core.List.{List, [], ◌∷◌, ◌++◌, map, map-append, append-nil}
@@ -7,9 +7,6 @@ use mathlib.Core.Logic.{⊎_elim}
 use mathlib.Core.Path.{◌≡◌, refl, ap, ap₂, sym, ◌∙◌}
 use native.Mathlib.Omega.{arith}
 use lib.Dec.{eqb}
-use Rattle.std.specs.List.{filter, range_with_len}
-use Rattle.std.proofs.lemmas.List.{map-id}
-use Rattle.std.proofs.lemmas.List.FromFn.{filter_of_map_range_with_len_more}
 use lib.ListN.{length, get_or, set, take, length-append, length-map, length-set}
 use lib.Seq.{get_or-set_other, get_or-set_same}
 use native.Mathlib.Numerals.{add-one}
@@ -52,22 +49,9 @@ pub record_changed : {b : Bool} {x y : List ℕ} (t u : List ℕ) (i : ℕ) → 
 unfolding changed
 record_changed t u i p q e = e ∙ ap₂ (λ (x y : List ℕ). not (pointwise eqb x y)) p q ∙ not_all _ _ _ _ _ _ _ _
 
--- std's filter over the numbers below n
-filtered : (p : ℕ → Bool) (n : ℕ) → filter p (map (λ k. k) (range_with_len 0 n)) ≡ which p n
-unfolding which
-filtered p zero = refl
-filtered p (suc n) =
-    ap (λ m. filter p (map (λ k. k) (range_with_len 0 m))) (sym (add-one n))
-    ∙ filter_of_map_range_with_len_more p (λ k. k) 0 n n (omega arith)
-    ∙ ap (λ (l : List ℕ). l ++ cond (p n) (n ∷ []) []) (filtered p n)
-
-pub needed_is : (t u : List ℕ) {m n : ℕ} → n ≡ length (filter (changed t u) (range_with_len 0 m)) → m ≡ records t → n + 1 ≡ entries_needed t u
+pub needed_is : (t u : List ℕ) {n : ℕ} → n ≡ count (changed t u) (records t) → n + 1 ≡ entries_needed t u
 unfolding entries_needed
-needed_is t u {m} {n} e h =
-    ap (λ k. k + 1)
-    (e ∙ ap (λ (l : List ℕ). length (filter (changed t u) l)) (sym (map-id (range_with_len 0 m)))
-    ∙ ap length (filtered (changed t u) m)
-    ∙ ap (λ k. length (which (changed t u) k)) h)
+needed_is t u e = omega (arith, e, which_length (changed t u) (records t))
 
 -- ---- the entries one after the other
 

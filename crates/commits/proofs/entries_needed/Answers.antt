@@ -1,17 +1,20 @@
-use Rattle.std.proofs.Common.{rules}
-use Rattle.std.proofs.lemmas.Iterator.{YieldsList-from_range}
-use Rattle.std.proofs.lemmas.Iterator.Consumers.{YieldsList-from_filter, count_from_yields_List}
-use Rattle.undo.specs.Log.{changed}
+use Rattle.std.proofs.Common.{◌≡◌, arith, rules}
+use Rattle.lists.specs.Count.{bit, bit_small, counts, count_small}
 use Rattle.commits.proofs.Laws.{needed_is}
 use Rattle.commits.proofs.entries_needed.Goals as goal
 
+pub loop-i-init : goal.loop-i-init
+loop-i-init c = search counts
+
+pub overflow_add-entries : goal.overflow_add-entries
+overflow_add-entries c =
+    let one : c.from-entries.result ≡ bit c.is_changed.result = search rules in omega (arith, count_small, bit_small c.is_changed.result)
+
+pub overflow_add-result : goal.overflow_add-result
+overflow_add-result c = omega (arith, count_small)
+
+pub loop-i-preserved : goal.loop-i-preserved
+loop-i-preserved c = search counts
+
 pub returns : goal.returns
-returns c =
-    let t = c.args.table.now in
-    let u = c.args.image.now in
-    let m = c.count_records.result in
-    let numbers = YieldsList-from_range 0 m m c.filter.ensures.source (search rules) in
-    needed_is t u
-    (count_from_yields_List c.filter.result c.count.result c.count.ensures.ran
-    (YieldsList-from_filter _ (changed t u) numbers c.filter.ensures.closure (λ x b q k. search rules)))
-    c.count_records.ensures
+returns c = search (needed_is, counts)

@@ -8,12 +8,18 @@ loop-i-init c = search logs
 
 pub overflow_mul-entries : goal.overflow_mul-entries
 overflow_mul-entries c =
-    let room = logs_room _ _ _ c.loop-i.invariant c.is_changed.ensures c.if-is_changed.true (omega arith) c.requires.room (omega arith) in omega arith
+    omega (
+      arith,
+      logs_room _ _ _ c.loop-i.invariant c.is_changed.ensures c.if-is_changed.true (omega arith) c.requires.room (omega arith),
+    )
 
 pub write-requires : goal.write-requires
 write-requires c =
-    let room = logs_room _ _ _ c.loop-i.invariant c.is_changed.ensures c.if-is_changed.true (omega arith) c.requires.room (omega arith) in
-    omega (arith, ap length c.record_entry.ensures)
+    omega (
+      arith,
+      ap length c.record_entry.ensures,
+      logs_room _ _ _ c.loop-i.invariant c.is_changed.ensures c.if-is_changed.true (omega arith) c.requires.room (omega arith),
+    )
 
 pub overflow_add-entries : goal.overflow_add-entries
 overflow_add-entries c = search logs
