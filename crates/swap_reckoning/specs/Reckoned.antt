@@ -25,7 +25,7 @@ use Rattle.swap_reckoning.specs.Asked.{crossings, news_in, becomes_in, news_afte
 use Rattle.swap_reckoning.specs.Asked.{low_settled, high_settled, crossed_node, news_none, news_all, news_next, becomes_then}
 use Rattle.swap_reckoning.specs.Searching.{Searchable, Noted}
 use Rattle.swap_reckoning.specs.Noting.{pair_noted, settled_in_lem}
-use Rattle.swap_reckoning.specs.Work.{no_work, with_turns, AllSlots}
+use Rattle.swap_reckoning.specs.Work.{with_turns, AllSlots}
 use Rattle.swap_reckoning.specs.declared.Work.{Work}
 
 -- where X(a, b) is looked for: the standing records, and the slots for new ones
@@ -204,16 +204,17 @@ module _ {t : List ℕ} {p : Pair} {crossing standing slots : List ℕ} where
           kept_are = λ j l. either_side j k (becomes_before j) (λ d. let z : j ≡ k = omega arith in rw z becomes_here);
         }
 
-module _ {t : List ℕ} {p : Pair} {w w' : Work} (S : Sorted t p w) where
+module _ {t : List ℕ} {p : Pair} (w : Work) {w' : Work} (r : Ready t p w.crossing w.standing w.slots) where
   pub turns_end : {news kept : List Children} {slots crossing : List ℕ} → slots ≡ w.slots → crossing ≡ w.crossing
       → Turns t p slots crossing news kept (length crossing) → w' ≡ with_turns w news kept → Reckoned t p w'
   turns_end {news} {kept} f g h' e = let h : Turns t p w.slots w.crossing news kept (length w.crossing) = rw (← f, ← g) h' in rw e (record {
-    crossing_are = S.ready.crossing_are;
+    crossing_are = r.crossing_are;
     kept_long = h.kept_long;
-    news_are = h.news_are ∙ ap (news_after t p.x.0 p.y.0) (ap length S.ready.crossing_are.is) ∙ news_all t p.x.0 p.y.0;
+    news_are = h.news_are ∙ ap (news_after t p.x.0 p.y.0) (ap length r.crossing_are.is) ∙ news_all t p.x.0 p.y.0;
     kept_are = h.kept_are;
   })
 
+module _ {t : List ℕ} {p : Pair} {w w' : Work} (S : Sorted t p w) where
   -- the lists are as they were, but for the slots
   pub sorted_again : {r : List ℕ} → AllSlots t r p w w' → Sorted t p w'
   sorted_again a = rw a.same (record {
@@ -237,14 +238,14 @@ free_is t F = ap length F.is ∙ which_length (is_free t) (records t) ∙ sym (c
 
 -- ---- the lists as they are filled
 
-pub first_sorted : {t : List ℕ} {p : Pair} {w : Work} {crossing standing slots : List ℕ} → w ≡ no_work
-    → Splits t p (records t) crossing standing → FreeListed t slots
-    → Sorted t p (record { crossing = crossing; standing = standing; slots = slots; news = w.news; kept = w.kept })
-first_sorted e S F = record {
+pub first_sorted : {t : List ℕ} {p : Pair} {crossing standing slots : List ℕ} {news kept : List Children}
+    → Splits t p (records t) crossing standing → FreeListed t slots → news ≡ [] → kept ≡ []
+    → Sorted t p (record { crossing = crossing; standing = standing; slots = slots; news = news; kept = kept })
+first_sorted S F e f = record {
   ready = record {
     sources = record { few = S.few; standing_are = S.standing_are; slots_in_lem = inside_of F };
     crossing_are = S.crossing_are;
   };
-  news_none = ap (λ z. z.news) e;
-  kept_none = ap (λ z. z.kept) e;
+  news_none = e;
+  kept_none = f;
 }

@@ -6,7 +6,7 @@ ghost use Rattle.diagrams.specs.Layout.{most_records, records};
 ghost use Rattle.check_sizes.specs.Sizes.{TableSizes};
 ghost use Rattle.swap_records.specs.Listed.{FreeListed};
 ghost use Rattle.swap_reckoning.specs.Work.{no_work, with_turns, AllSlots};
-ghost use Rattle.swap_reckoning.specs.Reckoned.{Sorted, Reckoned};
+ghost use Rattle.swap_reckoning.specs.Reckoned.{Ready, Sorted, Reckoned};
 
 use news::{Kept, News, Sources};
 use swap_names::dying;
@@ -53,11 +53,13 @@ impl Work {
 
     // The records of each kind. The free ones are the first slots.
     pub fn sort_records(&mut self, table: &[u8], pair: Pair)
-        requires { (records table.now ≤ most_records) × (self.old ≡ no_work) }
+        requires { records table.now ≤ most_records }
         ensures { Sorted table.now pair self.new × FreeListed table.now self.new.slots }
     {
         collect::collect_x(table, pair, &mut self.crossing, &mut self.standing);
         collect::collect_free(table, &mut self.slots);
+        self.news.clear();
+        self.kept.clear();
     }
 
     // What dies goes after the free records: all the slots there are.
@@ -70,7 +72,7 @@ impl Work {
 
     // Fills the lists of new records, and of what each crossing record becomes.
     pub fn reckon(&mut self, table: &[u8], pair: Pair)
-        requires { Sorted table.now pair self.old }
+        requires { Ready table.now pair self.old.crossing self.old.standing self.old.slots }
         ensures { Reckoned table.now pair self.new × (self.new ≡ with_turns self.old self.new.news self.new.kept) }
     {
         let sources = Sources {

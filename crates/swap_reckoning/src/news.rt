@@ -114,10 +114,12 @@ impl Sources<'_> {
 
     // All crossing records, in rising number.
     pub fn take_turns(self, crossing: &[u16], news: &mut News, kept: &mut Kept)
-        requires { Ready self.table.now self.pair crossing.now self.standing.now self.slots.now × ((news.old ≡ []) × (kept.old ≡ [])) }
+        requires { Ready self.table.now self.pair crossing.now self.standing.now self.slots.now }
         ensures { let s = self.entry in
             Turns s.table.now s.pair s.slots.now crossing.now news.new kept.new (length crossing.now) }
     {
+        news.clear();
+        kept.clear();
         for k in 0..crossing.len() {
             self.take_turn(crossing, k, news, kept);
         }

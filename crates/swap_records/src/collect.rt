@@ -19,9 +19,10 @@ pub fn entry(list: &[u16], k: usize) -> RecordNumber
 }
 
 pub fn collect_free(table: &[u8], list: &mut Numbers)
-    requires { (records table.now ≤ most_records) × (list.old ≡ []) }
+    requires { records table.now ≤ most_records }
     ensures { FreeListed table.now list.new }
 {
+    list.clear();
     for i in 0..diagrams::count_records(table) {
         list.push_if(RecordNumber(i).is_free(table), i as u16);
     }
@@ -46,9 +47,11 @@ fn split_record(
 }
 
 pub fn collect_x(table: &[u8], pair: Pair, crossing: &mut Numbers, standing: &mut Numbers)
-    requires { (records table.now ≤ most_records) × ((crossing.old ≡ []) × (standing.old ≡ [])) }
+    requires { records table.now ≤ most_records }
     ensures { Splits table.now pair (records table.now) crossing.new standing.new }
 {
+    crossing.clear();
+    standing.clear();
     for i in 0..diagrams::count_records(table) {
         split_record(table, pair, RecordNumber(i), crossing, standing);
     }

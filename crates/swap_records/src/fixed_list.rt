@@ -31,6 +31,12 @@ impl<T: Copy, const N: usize> FixedList<T, N> {
         }
     }
 
+    pub fn clear(&mut self)
+        ensures { self.new ≡ [] }
+    {
+        self.len = 0;
+    }
+
     pub fn len(&self) -> usize
         ensures { result ≡ length self.now }
     {

@@ -4,7 +4,7 @@ use Rattle.swap_preparing.proofs.Laws.{no_room, fillable, prepared}
 use Rattle.swap_preparing.proofs.fill_image.Goals as goal
 
 pub reckon-requires : goal.reckon-requires
-reckon-requires c = sorted_again c.requires.0.0 c.add_dying.ensures
+reckon-requires c = (sorted_again c.requires.0.0 c.add_dying.ensures).ready
 
 pub fill-requires : goal.fill-requires
 fill-requires c =
