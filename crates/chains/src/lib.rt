@@ -54,7 +54,8 @@ impl<'a> Chains<'a> {
     // Entry e to the front of bucket b.
     pub fn add(&mut self, b: usize, e: usize)
         requires { ((b < length self.old.head.now) × (e < length self.old.link.now)) × (e < 65535) }
-        ensures { Added self.old.head.now self.old.link.now b e self.new.head.now self.new.link.now }
+        ensures memory { (self.new.head.ghost_name ≡ self.old.head.ghost_name) × (self.new.link.ghost_name ≡ self.old.link.ghost_name) }
+        ensures added { Added self.old.head.now self.old.link.now b e self.new.head.now self.new.link.now }
     {
         self.link[e] = self.head[b];
         self.head[b] = (e + 1) as u16;
