@@ -13,7 +13,7 @@ ghost use Rattle.plans.specs.Plans.{differs_at, same?, next_level};
 ghost use Rattle.plans.specs.BringUp.{bring_up};
 ghost use Rattle.plans.specs.SinkDown.{sink_down};
 ghost use Rattle.plans.specs.Nearest.{inverted_at, lowest_inversion, highest_inversion};
-ghost use Rattle.plans.specs.Numbered.{meant, Numbers};
+ghost use Rattle.plans.specs.Numbered.{plan_of, meant, Numbers};
 
 mod course;
 
@@ -49,6 +49,17 @@ impl TryFrom<usize> for Plan {
             3 => Ok(Plan::HighestInversion),
             _ => Err(NoPlan(number)),
         }
+    }
+}
+
+// The plan with this number; past the last one any, since such a run is refused.
+#[tactic(auto, using(crate::proofs::NumberedLaws::plan_past), unfolding(crate::specs::Numbered::meant))]
+pub fn numbered(number: usize) -> Plan
+    ensures { meant result ≡ plan_of number }
+{
+    match Plan::try_from(number) {
+        Ok(plan) => plan,
+        Err(_) => Plan::HighestInversion,
     }
 }
 
