@@ -2,6 +2,7 @@
 #![tactic(auto)]
 
 ghost use Rattle.std.specs.Prelude.{◌≡◌, ◌<◌};
+ghost use Rattle.orders.specs.Arranged.{bytes_of};
 ghost use Rattle.plans.specs.Numbered.{meant};
 ghost use Rattle.plans.specs.Course.{to};
 ghost use Rattle.undo.specs.Stores.{state};
@@ -9,14 +10,15 @@ ghost use Rattle.runs.specs.OneSwap.{plain_swap};
 ghost use Rattle.slice_judging.specs.Drivable.{Drivable};
 ghost use Rattle.slice_judging.specs.Judged.{Judgeable, judged_on};
 
+use orders::Order;
 use plans::{Course, Plan};
 use runs::Slice;
 use swap_ways::Way;
 
-// What a slice reaches: the course from there on, the swaps made of its budget, and the fuel left.
+// What a slice reaches: the order, the swaps made of its budget, and the fuel left.
 #[derive(Clone, Copy)]
 pub struct Reached {
-    pub course: Course,
+    pub order: Order,
     pub swaps: usize,
     pub fuel: usize,
 }
@@ -52,11 +54,13 @@ pub fn answer_of(
     order: &[u8],
     log: &[u8],
     reached: &Reached,
+    target: &Order,
+    n: usize,
     plan: Plan,
 ) -> Slice
-    requires { Judgeable table.now roots.now order.now log.now reached.now }
+    requires { Judgeable table.now roots.now order.now log.now reached.now target.now n }
     ensures { 0 < reached.now.fuel → result ≡ judged_on plain_swap (meant plan) (state table.now order.now log.now)
-        roots.now (to reached.now.course) reached.now.swaps }
+        roots.now (bytes_of target.now n) reached.now.swaps }
 {
     if reached.fuel == 0 {
         return Slice::Paused {
@@ -64,13 +68,10 @@ pub fn answer_of(
             left: 0,
         };
     }
-    judge(
-        table,
-        roots,
-        order,
-        log,
-        &reached.course,
-        plan,
-        reached.swaps,
-    )
+    let course = Course {
+        order: reached.order,
+        target: *target,
+        n,
+    };
+    judge(table, roots, order, log, &course, plan, reached.swaps)
 }

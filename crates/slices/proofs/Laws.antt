@@ -46,7 +46,7 @@ use Rattle.runs.specs.OneSwap.{plain_swap}
 use Rattle.runs.specs.Run.{RunAnswer, Planned, stores_of, relay, run_stores, run_stages}
 use Rattle.runs.specs.Run.{slice_call, run_judged, run_call, RunOutcome}
 use Rattle.slice_judging.specs.Drivable.{Drivable, plan_in_order, at_target, on_the_way, next_is}
-use Rattle.slice_judging.specs.Judged.{judged_on}
+use Rattle.slice_judging.specs.Judged.{Judgeable, judged_on}
 use Rattle.slices.specs.Work.{Moved, Stepped, Driven, Stopped}
 use Rattle.runs.proofs.Stores.{next_stores, stepped_is, stores_rest, stores_add}
 use Rattle.runs.specs.Theorems.{Runnable}
@@ -63,11 +63,11 @@ spent_nothing {f} {left} {s} w = (w.state ∙ ap (λ (l : List Store). puts l s)
 
 module _ (plan : Plan) {t r o log : List ℕ} {course : Course} (d : Drivable t r o log course) where
   -- the order is the target
-  pub step_rests : (f : ℕ) {next : Option Course} → next ≡ None → None ≡ next_level plan (from course) (to course)
-      → Stepped plain_swap plan r (to course) (state t o log) f next (state t o log) f
+  pub step_rests : (f : ℕ) {next : Option Order} → next ≡ None → None ≡ next_level plan (from course) (to course)
+      → Stepped plain_swap plan r course (state t o log) f next (state t o log) f
   unfolding over.goes
   step_rests f none e =
-      subst (λ x. Stepped plain_swap plan r (to course) (state t o log) f x (state t o log) f) (sym none) (rw (at_target plan d e) refl, refl, refl)
+      subst (λ x. Stepped plain_swap plan r course (state t o log) f x (state t o log) f) (sym none) (rw (at_target plan d e) refl, refl, refl)
 
   -- the plan has a next level
   module _ {k : ℕ} (planned : Some k ≡ next_level plan (from course) (to course)) where
@@ -77,25 +77,21 @@ module _ (plan : Plan) {t r o log : List ℕ} {course : Course} (d : Drivable t 
 
     module _ {f left : ℕ} {s' : State} where
       pub step_lacks : {l : Lack} → Swapped f (state t o log) r k (way.NoRoom l) s' left
-          → Stepped plain_swap plan r (to course) (state t o log) f None s' left
+          → Stepped plain_swap plan r course (state t o log) f None s' left
       step_lacks w = let p = spent_nothing w.spent in (met w.answer, p.0, p.1)
 
       pub step_short : {l : Short} → Swapped f (state t o log) r k (way.LogShort l) s' left
-          → Stepped plain_swap plan r (to course) (state t o log) f None s' left
+          → Stepped plain_swap plan r course (state t o log) f None s' left
       step_short w = let p = spent_nothing w.spent in (met w.answer, p.0, p.1)
 
-      pub step_moves : (next : Course) → k + 1 < course.n → next.order ≡ exchanged_order course.order k → next.target ≡ course.target → next.n ≡ course.n
-          → Swapped f (state t o log) r k way.Clear s' left → Moved plain_swap plan r (to course) (state t o log) f next s' left
-      step_moves next inside order target n w = record {
+      pub step_moves : {next : Order} → k + 1 < course.n → next ≡ exchanged_order course.order k
+          → Swapped f (state t o log) r k way.Clear s' left → Moved plain_swap plan r course (state t o log) f next s' left
+      step_moves inside order w = record {
         goes = met w.answer;
         spent = spent_as w.spent (ap (stores_of plain_swap r (state t o log)) (next_is plan d planned));
-        exchanged = ap₂ bytes_of order n ∙ exchanged_bytes course.arranged.0 k inside ∙ ap₂ exchange (sym d.bytes) (next_is plan d planned);
-        target = ap₂ bytes_of target n;
+        exchanged = ap (λ q. bytes_of q course.n) order ∙ exchanged_bytes course.arranged.0 k inside ∙ ap₂ exchange (sym d.bytes) (next_is plan d planned);
+        arranged = rw order (exchanged_arranged course.arranged.0 k inside);
       }
-
-pub next_arranged : (course : Course) (k : ℕ) {q : Order} → k + 1 < course.n → q ≡ exchanged_order course.order k
-    → Arranged q course.n × Arranged course.target course.n
-next_arranged course k inside e = (rw e (exchanged_arranged course.arranged.0 k inside), course.arranged.1)
 
 -- ---- the loop
 
@@ -125,6 +121,14 @@ next_in_order name {o = o} {g = g} {course = course} d e apart =
     let differ : same? (from course) (to course) ≡ false = rw (d.bytes, ← e) at apart in
     let l = plan_in_order d name (next_some (meant name) (from course) (to course) differ refl) in
     rw (d.bytes, ← e) (rw d.bytes at l)
+
+-- what was reached can be driven on, on the same course
+on_course : {t r o log : List ℕ} {course : Course} {i left : ℕ} → Drivable t r o log course
+    → Judgeable t r o log (record { order = course.order; swaps = i; fuel = left }) course.target course.n
+on_course {course = course} d = record {
+  arranged = λ h. course.arranged;
+  drivable = λ h c e g q. record { sized = d.sized; log_open = d.log_open; bytes = d.bytes ∙ sym (ap₂ bytes_of e q) };
+}
 
 -- at i swaps of the budget, all of them whole
 pub record Driving (name : coded.Plan) (g t₀ r o₀ log₀ : List ℕ) (budget f : ℕ) (t o log : List ℕ) (course : Course) (i left : ℕ) : Type 0 where
@@ -165,8 +169,8 @@ module _ (name : coded.Plan) {g t₀ r o₀ log₀ : List ℕ} {budget f : ℕ} 
   rest_is b = stores_add plain_swap P r g i b begun ∙ ap (λ (z : State). all_stores i ++ run_stores plain_swap P r g b z) (sym d.so_far.so_far)
 
   -- nothing more is to be made
-  pub drive_rests : {s' : State} {m : ℕ} → Stepped plain_swap P r (to course) now_at left None s' m
-      → Driven plain_swap P r g begun budget f (record { course = course; swaps = i; fuel = m }) s'
+  pub drive_rests : {s' : State} {m : ℕ} → Stepped plain_swap P r course now_at left None s' m
+      → Driven plain_swap P r g begun budget f (record { order = course.order; swaps = i; fuel = m }) course s'
   drive_rests {s'} {m} w =
       let rests : over.goes R P g now_at ≡ false = rw d.target at w.0 in
       let none = stores_rest plain_swap P r g (budget - i) now_at rests in
@@ -175,13 +179,19 @@ module _ (name : coded.Plan) {g t₀ r o₀ log₀ : List ℕ} {budget f : ℕ} 
       rw (w.1, w.2) (record {
         spent = spent_as d.spent (sym (whole ∙ ap (λ (l : List Store). all_stores i ++ l) none ∙ append-nil (all_stores i)));
         sliced = λ h. slicing_rests R P g d.so_far rests;
-        judgeable = record { drivable = λ h. d.drivable };
+        judgeable = on_course d.drivable;
         target = d.target;
       })
 
-  module _ {next : Course} {s' : State} {m : ℕ} (moved : Moved plain_swap P r (to course) now_at left next s' m) (l : i < budget) where
-    w : Moved plain_swap P r g now_at left next s' m
-    w = subst (λ x. Moved plain_swap P r x now_at left next s' m) d.target moved
+  module _ {next : Order} {s' : State} {m : ℕ} (moved : Moved plain_swap P r course now_at left next s' m) (l : i < budget) where
+    goes : over.goes R P g now_at ≡ true
+    goes = subst (λ x. over.goes R P x now_at ≡ true) d.target moved.goes
+
+    spent : Spent left (stores_of plain_swap r now_at (over.next R P g now_at)) now_at s' m
+    spent = subst (λ x. Spent left (stores_of plain_swap r now_at (over.next R P x now_at)) now_at s' m) d.target moved.spent
+
+    exchanged : bytes_of next course.n ≡ exchange o (over.next R P g now_at)
+    exchanged = subst (λ x. bytes_of next course.n ≡ exchange o (over.next R P x now_at)) d.target moved.exchanged
 
     abbrev stores : List Store
     stores = next_stores plain_swap P r g now_at
@@ -189,42 +199,43 @@ module _ (name : coded.Plan) {g t₀ r o₀ log₀ : List ℕ} {budget f : ℕ} 
     -- the stores of all swaps up to this one
     one_more : all_stores (i + 1) ≡ all_stores i ++ stores
     unfolding run_stores
-    one_more = rest_is 1 ∙ ap (λ (x : List Store). all_stores i ++ x) (one w.goes)
+    one_more = rest_is 1 ∙ ap (λ (x : List Store). all_stores i ++ x) (one goes)
       where
         one : over.goes R P g now_at ≡ true → run_stores plain_swap P r g 1 now_at ≡ stores
         one e = rw e (append-nil stores)
 
     up_to_lem : Spent f (all_stores (i + 1)) begun s' m
-    up_to_lem = spent_as (spent_more d.spent w.spent) (sym one_more)
+    up_to_lem = spent_as (spent_more d.spent spent) (sym one_more)
 
     -- supply is lost in it
-    pub drive_lost : {j : ℕ} → m ≡ 0 → Driven plain_swap P r g begun budget f (record { course = next; swaps = j; fuel = 0 }) s'
-    drive_lost z =
+    pub drive_lost : (c : Course) {q : Order} {j : ℕ} → c.target ≡ course.target → c.n ≡ course.n → m ≡ 0
+        → Driven plain_swap P r g begun budget f (record { order = q; swaps = j; fuel = 0 }) c s'
+    drive_lost c target n z =
         let out : Spent f (all_stores (i + 1)) begun s' 0 = subst (λ x. Spent f (all_stores (i + 1)) begun s' x) z up_to_lem in
         let more = run_stores plain_swap P r g (budget - (i + 1)) (over.leaves R P g (i + 1) begun) in
         let whole : i + 1 + (budget - (i + 1)) ≡ budget = omega arith in
         record {
           spent = spent_as (spent_out more out) (sym (ap all_stores (sym whole) ∙ stores_add plain_swap P r g (i + 1) (budget - (i + 1)) begun));
           sliced = λ h. absurd (omega arith);
-          judgeable = record { drivable = λ h. absurd (omega arith) };
-          target = w.target;
+          judgeable = record { arranged = λ h. absurd (omega arith); drivable = λ h x e y q. absurd (omega arith) };
+          target = ap₂ bytes_of target n ∙ d.target;
         }
 
     -- the swap is whole
     module _ (some : m ≡ 0 → ⊥) where
       made : s' ≡ over.stepped R P g now_at
-      made = spent_all w.spent some ∙ sym (stepped_is plain_swap P r g now_at)
+      made = spent_all spent some ∙ sym (stepped_is plain_swap P r g now_at)
 
       abbrev k : ℕ
       k = over.next R P g now_at
 
       clear : is_clear (way_of t r o (entries_held log) k) ≡ true
       unfolding relay
-      clear = (over_laws.goes_on R P g now_at w.goes).1
+      clear = (over_laws.goes_on R P g now_at goes).1
 
       inside : k + 1 < length o
       unfolding over.next over.arrived relay
-      inside = next_in_order name d.drivable d.target (over_laws.goes_on R P g now_at w.goes).0
+      inside = next_in_order name d.drivable d.target (over_laws.goes_on R P g now_at goes).0
 
       ready : Ready now_at (table_after t r o k) k
       ready = record {
@@ -236,18 +247,19 @@ module _ (name : coded.Plan) {g t₀ r o₀ log₀ : List ℕ} {budget f : ℕ} 
       }
 
       quiet : Quiet (table_after t r o k) (exchange o k) s'
-      quiet = subst (Quiet (table_after t r o k) (exchange o k)) (sym (spent_all w.spent some)) (swap_quiet now_at (table_after t r o k) k ready)
+      quiet = subst (Quiet (table_after t r o k) (exchange o k)) (sym (spent_all spent some)) (swap_quiet now_at (table_after t r o k) k ready)
 
-      pub drive_goes : Driving name g t₀ r o₀ log₀ budget f s'.table s'.order s'.log next (i + 1) m
-      drive_goes = record {
-        so_far = slicing_goes R P g d.so_far l w.goes made;
+      pub drive_goes : (c : Course) → c.order ≡ next → c.target ≡ course.target → c.n ≡ course.n
+          → Driving name g t₀ r o₀ log₀ budget f s'.table s'.order s'.log c (i + 1) m
+      drive_goes c order target n = record {
+        so_far = slicing_goes R P g d.so_far l goes made;
         spent = up_to_lem;
         drivable = record {
-          sized = same_sizes s'.table t (spent_long in_table w.spent) d.drivable.sized;
-          log_open = record { sized = same_size s'.log log (spent_long in_log w.spent) d.drivable.log_open.sized; empty = quiet.empty };
-          bytes = quiet.order_is ∙ sym w.exchanged;
+          sized = same_sizes s'.table t (spent_long in_table spent) d.drivable.sized;
+          log_open = record { sized = same_size s'.log log (spent_long in_log spent) d.drivable.log_open.sized; empty = quiet.empty };
+          bytes = quiet.order_is ∙ sym exchanged ∙ sym (ap₂ bytes_of order n);
         };
-        target = w.target;
+        target = ap₂ bytes_of target n ∙ d.target;
       }
 
 -- ---- the entry
@@ -281,12 +293,13 @@ module _ (t r o g log : List ℕ) (starts : Runnable plain_swap (state t o log) 
     }
 
 -- what was reached, judged: the answer is known where fuel is left
-pub slice_done : (plan : Plan) {budget f : ℕ} {l : Reached} {s s' : State} {r g g' : List ℕ} {a : Slice} → g' ≡ g → Driven plain_swap plan r g' s budget f l s'
-    → (0 < l.fuel → a ≡ judged_on plain_swap plan s' r (to l.course) l.swaps)
+pub slice_done : (plan : Plan) {budget f : ℕ} {l : Reached} {course : Course} {s s' : State} {r g g' : List ℕ} {a : Slice}
+    → g' ≡ g → Driven plain_swap plan r g' s budget f l course s'
+    → (0 < l.fuel → a ≡ judged_on plain_swap plan s' r (to course) l.swaps)
     → Stopped f (slice_call plain_swap plan s r g budget) s (Ok a) s'
 unfolding over.slice relay
-slice_done plan {budget} {f} {l} {s} {s'} {r} {g} {g'} {a} e driven q =
-    let d = subst (λ x. Driven plain_swap plan r x s budget f l s') e driven in
+slice_done plan {budget} {f} {l} {course} {s} {s'} {r} {g} {g'} {a} e driven q =
+    let d = subst (λ x. Driven plain_swap plan r x s budget f l course s') e driven in
     record {
       state = d.spent.state;
       answer = λ h.

@@ -19,7 +19,8 @@ use runs::Slice;
 use slice_judging::Reached;
 use swap_ways::Way;
 
-// One planned swap: the course after it, where it is made. `course` has the order of the lent bytes.
+// One planned swap: the order after it, where it is made. `course` has the order of the lent bytes.
+// Not the course after it: that is so long that copying it would call memcpy.
 fn step(
     table: &mut [u8],
     roots: &[u8],
@@ -28,18 +29,14 @@ fn step(
     course: &Course,
     plan: Plan,
     pen: &mut Pen,
-) -> Option<Course>
+) -> Option<Order>
     requires { Drivable table.old roots.now order.old log.old course.now }
-    ensures { Stepped plain_swap (meant plan) roots.now (to course.now) (state table.old order.old log.old) pen.old.fuel result
+    ensures { Stepped plain_swap (meant plan) roots.now course.now (state table.old order.old log.old) pen.old.fuel result
         (state table.new order.new log.new) pen.new.fuel }
 {
     let level = course.next_level(plan)?;
     match swaps::swap_buffers(table, roots, order, log, level, pen) {
-        Way::Clear => Some(Course {
-            order: course.order.exchanged(level),
-            target: course.target,
-            n: course.n,
-        }),
+        Way::Clear => Some(course.order.exchanged(level)),
         Way::NoRoom(_) => None,
         Way::LogShort(_) => None,
     }
@@ -51,35 +48,34 @@ fn drive(
     roots: &[u8],
     order: &mut [u8],
     log: &mut [u8],
-    start: Course,
+    course: &mut Course,
     plan: Plan,
     budget: usize,
     pen: &mut Pen,
 ) -> Reached
-    requires { Drivable table.old roots.now order.old log.old start }
-    ensures { Driven plain_swap (meant plan) roots.now (to start) (state table.old order.old log.old) budget pen.old.fuel result
+    requires { Drivable table.old roots.now order.old log.old course.old }
+    ensures { Driven plain_swap (meant plan) roots.now (to course.old) (state table.old order.old log.old) budget pen.old.fuel result course.new
         (state table.new order.new log.new) }
 {
-    let mut course = start;
     for swaps in 0..budget {
-        let Some(next) = step(table, roots, order, log, &course, plan, pen) else {
+        let Some(next) = step(table, roots, order, log, course, plan, pen) else {
             return Reached {
-                course,
+                order: course.order,
                 swaps,
                 fuel: pen.fuel,
             };
         };
-        course = next;
+        course.order = next;
         if pen.fuel == 0 {
             return Reached {
-                course,
+                order: course.order,
                 swaps: swaps + 1,
                 fuel: 0,
             };
         }
     }
     Reached {
-        course,
+        order: course.order,
         swaps: budget,
         fuel: pen.fuel,
     }
@@ -101,14 +97,15 @@ fn run_slice(
         target.now budget) (state table.old order.old log.old) (Ok result)
         (state table.new order.new log.new) }
 {
-    let course = Course {
+    let mut course = Course {
         order: Order::load(order),
         target: Order::load(target),
         n: order.len(),
     };
-    let mut pen = Pen { fuel };
-    let reached = drive(table, roots, order, log, course, plan, budget, &mut pen);
-    slice_judging::answer_of(table, roots, order, log, &reached, plan)
+    let pen = &mut Pen { fuel };
+    let reached = drive(table, roots, order, log, &mut course, plan, budget, pen);
+    let (goal, n) = (&course.target, course.n);
+    slice_judging::answer_of(table, roots, order, log, &reached, goal, n, plan)
 }
 
 // ---- the entry

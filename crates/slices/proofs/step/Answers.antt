@@ -1,7 +1,7 @@
-use Rattle.std.proofs.Common.{rules, refl, sym, ◌∙◌}
+use Rattle.std.proofs.Common.{rules, sym, ◌∙◌}
 use Rattle.orders.specs.Arranged.{arranged_inverse}
 use Rattle.slice_judging.specs.Drivable.{plan_inside, plan_low, plan_storable}
-use Rattle.slices.proofs.Laws.{step_rests, step_lacks, step_short, step_moves, next_arranged}
+use Rattle.slices.proofs.Laws.{step_rests, step_lacks, step_short, step_moves}
 use Rattle.slices.proofs.step.Goals as goal
 
 pub returns-in_err-level : goal.returns-in_err-level
@@ -14,15 +14,10 @@ pub exchanged-requires : goal.exchanged-requires
 exchanged-requires c =
     (plan_low c.requires c.args.plan (sym c.in_ok-level.was ∙ c.next_level.ensures), arranged_inverse c.args.course.now.arranged.0)
 
-pub invariant_of-result : goal.invariant_of-result
-invariant_of-result c =
-    let inside = plan_inside c.requires c.args.plan (sym c.in_ok-level.was ∙ c.next_level.ensures) in
-    record { arranged = next_arranged c.args.course.now _ inside c.exchanged.ensures }
-
 pub returns-in-Clear : goal.returns-in-Clear
 returns-in-Clear c =
     let planned = sym c.in_ok-level.was ∙ c.next_level.ensures in
-    step_moves _ c.requires planned _ (plan_inside c.requires c.args.plan planned) c.exchanged.ensures refl refl c.in-Clear.ensures
+    step_moves _ c.requires planned (plan_inside c.requires c.args.plan planned) c.exchanged.ensures c.in-Clear.ensures
 
 pub returns-in-NoRoom : goal.returns-in-NoRoom
 returns-in-NoRoom c = step_lacks _ c.requires (sym c.in_ok-level.was ∙ c.next_level.ensures) c.in-NoRoom.ensures
