@@ -39,7 +39,7 @@ use Rattle.runs.specs.Run.{RunAnswer, RunOutcome}
 use Rattle.relay_numbers.specs.Written.{Written, wrote, written, told}
 use Rattle.relay_parts.specs.Small.{Small, small}
 use Rattle.relay.specs.Told.{told_count, told_swap, told_run, told_recover, CountTold, SwapTold, RunTold, RecoverTold}
-use Rattle.relay_numbers.specs.Fits.{limit, Fits, NumberFits, swap_fits, run_fits, recover_fits}
+use Rattle.relay_numbers.specs.Fits.{limit, Fits, NumberFits, swap_fits, run_fits, recover_number_fits}
 
 -- ---- the numbers of Check, Read and Show
 
@@ -166,6 +166,6 @@ module _ (list : List ℕ) (s : State) where
     recover_told p h = told_all 2 list recover.numbers s outcome (p ∙ ap (written list) (same_numbers a)) h
 
     pub recover_told_fits : NumberFits a
-    recover_told_fits = subst NumberFits (ap (λ (e : Ended RecoverAnswer). e.answer) (sym outcome)) (recover_fits s)
+    recover_told_fits = subst NumberFits (ap (λ (e : Ended RecoverAnswer). e.answer) (sym outcome)) (recover_number_fits s)
 
 pub ruleset recover_tells = (recover_told_fits, recover_told, rules)

@@ -31,8 +31,11 @@ pub run_fits : (s : State) (r g : List ℕ) (plan budget : ℕ) → plan < limit
     → Fits (run.numbers (run.run_of plain_swap plan s r g budget).answer)
 run_fits s r g plan budget p b = run_numbers_small plan s r g budget limit (omega arith) b p
 
-pub recover_fits : (s : State) → NumberFits (recover.recover_of s).answer
-recover_fits s = go (recover.recover_of s).answer (recover_numbers_small s limit (omega arith))
+pub recover_fits : (s : State) → Fits (recover.numbers (recover.recover_of s).answer)
+recover_fits s = recover_numbers_small s limit (omega arith)
+
+pub recover_number_fits : (s : State) → NumberFits (recover.recover_of s).answer
+recover_number_fits s = go (recover.recover_of s).answer (recover_fits s)
   where
     go : (a : RecoverAnswer) → Fits (recover.numbers a) → NumberFits a
     go (Ok n) f = f.1.0
