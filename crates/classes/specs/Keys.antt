@@ -2,8 +2,10 @@
 use Rattle.std.specs.Prelude.{ℕ, ◌+◌, ◌*◌, ◌/◌, ◌%◌, ◌^◌, ◌≤◌, ◌<◌, List, ◌≡◌, refl, get_or}
 use Rattle.std.proofs.Common.{ap, sym, ◌∙◌, pow-suc, add-one, arith}
 use Rattle.std.proofs.Math.Nat.{div-div-eq-div-mul}
-use Rattle.diagrams.specs.Layout.{most_records, variable_at, low_at, high_at}
+use Rattle.diagrams.specs.Layout.{most_records, record_size, variable_at, low_at, high_at}
+use Rattle.diagrams.specs.Bytes.{Bytes, pair_small}
 use Rattle.classes.specs.Classes.{Classes, Alike, class_within, class_key, key_class, classes_alike}
+use Rattle.classes.specs.Pass.{slots}
 
 abbrev pub key_at : List ℕ → ℕ → ℕ
 key_at t i = variable_at t i + 256 * (low_at t i + 65536 * high_at t i)
@@ -24,6 +26,10 @@ unfoldable pub place_at : List ℕ → List ℕ → ℕ → ℕ → ℕ
 place_at t class k i = 2 * get_or class i 0 + bit_at t k i
 
 -- ---- what fits
+
+pub lead_small : (t : List ℕ) → Bytes t → (i : ℕ) → part t rest i < slots
+unfolding part
+lead_small t b i = omega (arith, (b (record_size * i)).fits, pair_small t (record_size * i + 2) b, pair_small t (record_size * i + 4) b)
 
 bit_small : (t : List ℕ) (k i : ℕ) → bit_at t k i < 2
 unfolding bit_at
