@@ -26,6 +26,8 @@ fn is_same(table: &[u8], i: RecordNumber, j: RecordNumber) -> bool
         == (i.variable(table), i.low(table), i.high(table))
 }
 
+// In a frame of its own: the stack of these lists is free again when check 9 marks what is named.
+#[inline(never)]
 pub fn first_repeat(table: &[u8]) -> Option<usize>
     ensures { result ≡ found (repeats table.now) (records table.now) }
 {

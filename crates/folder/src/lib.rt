@@ -67,8 +67,27 @@ fn write<R: Print + Eprint>(rt: &R, text: &[u8]) {
     }
 }
 
-// Prints the text of the program, with the labels of the site and of the factory.
-fn print<R: rt::Files + Print + Eprint>(
+// Prints the text of the program, with these labels. In a frame of its own: the text isn't laid out before the labels are read.
+#[inline(never)]
+fn print<R: Print + Eprint>(
+    rt: &R,
+    table: &mut [u8],
+    roots: &[u8],
+    order: &mut [u8],
+    target: &[u8],
+    plan: &[u8],
+    site: &[u8],
+    factory: &[u8],
+)
+    requires { Held table.old roots.now order.old }
+{
+    let mut text = [0u8; program::MOST_TEXT];
+    let n = program::text(table, roots, order, target, plan, site, factory, &mut text);
+    write(rt, &text[..n]);
+}
+
+// Prints with the labels of the site and of the factory.
+fn print_labelled<R: rt::Files + Print + Eprint>(
     rt: &R,
     table: &mut [u8],
     roots: &[u8],
@@ -82,8 +101,8 @@ fn print<R: rt::Files + Print + Eprint>(
     let s = load_labels(rt, "trip.lbs", &mut site)?;
     let mut factory = [0u8; LABEL_SIZE * MOST_LABELS + 1];
     let f = load_labels(rt, "trip.lbf", &mut factory)?;
-    let mut text = [0u8; program::MOST_TEXT];
-    let n = program::text(
+    print(
+        rt,
         table,
         roots,
         order,
@@ -91,9 +110,7 @@ fn print<R: rt::Files + Print + Eprint>(
         plan,
         &site[..s],
         &factory[..f],
-        &mut text,
     );
-    write(rt, &text[..n]);
     Ok(())
 }
 
@@ -106,7 +123,7 @@ fn load_and_print<R: rt::Files + Print + Eprint>(rt: &R) -> Result<(), Unreadabl
     let sizes = load_all(rt, &mut table, &mut roots, &mut order, &mut target)?;
     let mut plan = [0u8; 2];
     let p = load_plan(rt, &mut plan)?;
-    print(
+    print_labelled(
         rt,
         &mut table[..sizes.table],
         &roots[..sizes.roots],
